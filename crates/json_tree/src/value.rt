@@ -1,0 +1,332 @@
+ghost use Rattle.std.specs.Prelude.{◌≡◌, [], ◌∷◌, ◌++◌, ◌<◌, ◌≤◌, length, slice_get, slice_set, slice_index_or, insert, remove, option_map, IfOk, OnOk, OnErr, IsTrue, ◌↔◌};
+ghost use Rattle.json_tree.specs.View.{tree, pair_of};
+ghost use Rattle.json_tree.specs.Members.{place_of, member_at, put_member, without_member, revalue, all_distinct};
+
+use crate::fault::TreeFault;
+use crate::num::Num;
+use crate::text::Text;
+use std::alloc::Global;
+use std::marker::Model;
+use std::mem;
+
+#[cycle(value)]
+#[derive(Drop)]
+pub enum Value {
+    Null,
+    Bool(bool),
+    Num(Num),
+    Text(Text),
+    Date(i64),
+    List(Items),
+    Object(Members),
+}
+
+/// A list of values.
+#[cycle(value)]
+#[derive(Drop)]
+pub struct Items {
+    items: Vec<Value>,
+}
+
+/// Pairs of name and value.
+#[cycle(value)]
+#[derive(Drop)]
+pub struct Members {
+    pairs: Vec<(Text, Value)>,
+}
+
+impl Model for Items {
+    ghost use Rattle.std.specs.Prelude.{List, map};
+    ghost use Rattle.json_tree.specs.Tree.{Tree, tree_code, trees_size};
+
+    ghost Value = { List Tree };
+
+    ghost use Rattle.std.specs.Coded.{coded_list};
+
+    ghost coded = { coded_list tree_code };
+
+    ghost use Rattle.json_tree.specs.View.{tree};
+
+    ghost view = { λ a. map tree a.items.items };
+
+    ghost size = { trees_size };
+
+    ghost use Rattle.json_tree.specs.Falls.{items_fall};
+    ghost use Rattle.std.proofs.Common.{arith};
+
+    ghost size_decreases = { λ a h. omega (arith, items_fall a.items.items) };
+}
+
+impl Model for Members {
+    ghost use Rattle.std.specs.Prelude.{List, ℕ, map};
+    ghost use Rattle.json_tree.specs.Tree.{Tree, tree_code, pairs_size};
+
+    ghost Value = { List (List ℕ × Tree) };
+
+    ghost use Rattle.std.specs.Coded.{coded_list, coded×, coded_ℕ};
+
+    ghost coded = { coded_list (coded× (coded_list coded_ℕ) tree_code) };
+
+    ghost use Rattle.json_tree.specs.View.{pair_of};
+
+    ghost view = { λ a. map pair_of a.pairs.items };
+
+    ghost use Rattle.std.specs.Prelude.{IsTrue};
+    ghost use Rattle.json_tree.specs.Members.{all_distinct};
+
+    ghost invariant = { λ a. IsTrue (all_distinct (map pair_of a.pairs.items)) };
+
+    ghost size = { pairs_size };
+
+    ghost use Rattle.json_tree.specs.Falls.{pairs_fall};
+    ghost use Rattle.std.proofs.Common.{arith};
+
+    ghost size_decreases = { λ a h. omega (arith, pairs_fall a.pairs.items) };
+}
+
+impl Items {
+    pub fn new(alloc: Global) -> Items
+        ensures { result ≡ [] }
+    {
+        Items {
+            items: Vec::new(alloc),
+        }
+    }
+
+    pub fn len(&self) -> usize
+        ensures { result ≡ length self.now }
+    {
+        self.items.len()
+    }
+
+    pub fn get(&self, place: usize) -> Option<&Value>
+        ensures { option_map (λ v. tree v.now) result ≡ slice_get self.now place }
+    {
+        self.items.get(place)
+    }
+
+    pub fn push(&mut self, value: Value) -> Result<(), TreeFault>
+        ensures ok { OnOk result (self.new ≡ self.old ++ tree value ∷ []) }
+        ensures err { OnErr result (self.new ≡ self.old) }
+    {
+        self.items.push(value)?;
+        Ok(())
+    }
+
+    #[tactic(auto, using(crate::proofs::Lists::mapped))]
+    pub fn insert(&mut self, place: usize, value: Value) -> Result<(), TreeFault>
+        requires { place ≤ length self.old }
+        ensures ok { OnOk result (self.new ≡ insert self.old place (tree value)) }
+        ensures err { OnErr result (self.new ≡ self.old) }
+    {
+        self.items.insert(place, value)?;
+        Ok(())
+    }
+
+    #[tactic(auto, using(crate::proofs::Lists::mapped))]
+    pub fn swap_in(&mut self, place: usize, value: Value) -> Value
+        requires { place < length self.old }
+        ensures old { slice_get self.old place ≡ Some (tree result) }
+        ensures new { self.new ≡ slice_set self.old place (tree value) }
+    {
+        mem::replace(&mut self.items[place], value)
+    }
+
+    #[tactic(auto, using(crate::proofs::Lists::mapped))]
+    pub fn remove(&mut self, place: usize) -> Value
+        requires { place < length self.old }
+        ensures old { slice_get self.old place ≡ Some (tree result) }
+        ensures new { self.new ≡ remove self.old place }
+    {
+        self.items.remove(place)
+    }
+}
+
+impl Members {
+    pub fn new(alloc: Global) -> Members
+        ensures { result ≡ [] }
+    {
+        Members {
+            pairs: Vec::new(alloc),
+        }
+    }
+
+    pub fn len(&self) -> usize
+        ensures value { result ≡ length self.now }
+        ensures distinct { IsTrue (all_distinct self.now) }
+    {
+        self.pairs.len()
+    }
+
+    /// The place of a name, or the length.
+    fn place(&self, name: &str) -> usize
+        ensures value { result ≡ place_of name.now self.now }
+        ensures within { result ≤ length self.now }
+    {
+        for i in 0..self.pairs.len() {
+            if self.pairs[i].0.as_str() == name {
+                return i;
+            }
+        }
+        self.pairs.len()
+    }
+
+    pub fn get(&self, name: &str) -> Option<&Value>
+        ensures { option_map (λ v. tree v.now) result ≡ member_at name.now self.now }
+    {
+        match self.pair(self.place(name)) {
+            Some((_, value)) => Some(value),
+            None => None,
+        }
+    }
+
+    /// Replaces the value of the pair at a place, and hands the old one back.
+    pub fn swap_in(&mut self, place: usize, value: Value) -> Value
+        requires { place < length self.old }
+        ensures old { option_map (λ p. p.1) (slice_get self.old place) ≡ Some (tree result) }
+        ensures new { self.new ≡ revalue self.old place (tree value) }
+    {
+        mem::replace(&mut self.pairs[place].1, value)
+    }
+
+    pub fn put(&mut self, name: Text, value: Value) -> Result<(), TreeFault>
+        ensures ok { OnOk result (self.new ≡ put_member name (tree value) self.old) }
+        ensures err { OnErr result (self.new ≡ self.old) }
+    {
+        let place = self.place(name.as_str());
+        if place < self.len() {
+            self.swap_in(place, value);
+            return Ok(());
+        }
+        self.pairs.push((name, value))?;
+        Ok(())
+    }
+
+    pub fn remove(&mut self, name: &str) -> Option<Value>
+        ensures old { option_map tree result ≡ member_at name.now self.old }
+        ensures new { self.new ≡ without_member name.now self.old }
+    {
+        let place = self.place(name);
+        if place < self.len() {
+            let (_, value) = self.pairs.remove(place);
+            Some(value)
+        } else {
+            None
+        }
+    }
+
+    pub fn pair(&self, place: usize) -> Option<(&Text, &Value)>
+        ensures { option_map (λ p. (p.0.now, tree p.1.now)) result ≡ slice_get self.now place }
+    {
+        match self.pairs.get(place) {
+            Some(pair) => Some((&pair.0, &pair.1)),
+            None => None,
+        }
+    }
+}
+
+impl Value {
+    #[cycle(copy)]
+    pub fn try_copy(&self, alloc: Global) -> Result<Value, TreeFault>
+        ensures { IfOk result (λ v. v ≡ self.now) }
+    {
+        match self {
+            Value::Null => Ok(Value::Null),
+            Value::Bool(b) => Ok(Value::Bool(*b)),
+            Value::Num(n) => Ok(Value::Num(*n)),
+            Value::Text(t) => Ok(Value::Text(t.try_copy(alloc)?)),
+            Value::Date(d) => Ok(Value::Date(*d)),
+            Value::List(items) => Ok(Value::List(items.try_copy(alloc)?)),
+            Value::Object(members) => Ok(Value::Object(members.try_copy(alloc)?)),
+        }
+    }
+
+    #[cycle(same)]
+    #[tactic(auto, using(crate::proofs::Trees::trees))]
+    pub fn same(&self, other: &Value) -> bool
+        ensures { IsTrue result ↔ (tree self.now ≡ tree other.now) }
+    {
+        match (self, other) {
+            (Value::Null, Value::Null) => true,
+            (Value::Bool(a), Value::Bool(b)) => *a == *b,
+            (Value::Num(a), Value::Num(b)) => *a == *b,
+            (Value::Text(a), Value::Text(b)) => a.same(b),
+            (Value::Date(a), Value::Date(b)) => *a == *b,
+            (Value::List(a), Value::List(b)) => a.same(b),
+            (Value::Object(a), Value::Object(b)) => a.same(b),
+            _ => false,
+        }
+    }
+}
+
+impl Items {
+    #[cycle(same)]
+    #[tactic(auto, using(crate::proofs::Lists::agrees))]
+    pub fn same(&self, other: &Items) -> bool
+        ensures { IsTrue result ↔ (self.now ≡ other.now) }
+    {
+        if self.items.len() != other.items.len() {
+            return false;
+        }
+        for i in 0..self.items.len() {
+            if !self.items[i].same(&other.items[i]) {
+                return false;
+            }
+        }
+        true
+    }
+}
+
+impl Members {
+    #[cycle(same)]
+    #[tactic(auto, using(crate::proofs::Lists::agrees))]
+    pub fn same(&self, other: &Members) -> bool
+        ensures { IsTrue result ↔ (self.now ≡ other.now) }
+    {
+        if self.pairs.len() != other.pairs.len() {
+            return false;
+        }
+        for i in 0..self.pairs.len() {
+            if !same_pair(&self.pairs[i], &other.pairs[i]) {
+                return false;
+            }
+        }
+        true
+    }
+}
+
+#[cycle(same)]
+fn same_pair(a: &(Text, Value), b: &(Text, Value)) -> bool
+    ensures { IsTrue result ↔ (pair_of a.now ≡ pair_of b.now) }
+{
+    a.0.same(&b.0) && a.1.same(&b.1)
+}
+
+impl Items {
+    #[cycle(copy)]
+    pub fn try_copy(&self, alloc: Global) -> Result<Items, TreeFault>
+        ensures { IfOk result (λ v. v ≡ self.now) }
+    {
+        let mut copy = Items::new(alloc);
+        for i in 0..self.items.len() {
+            copy.push(self.items[i].try_copy(alloc)?)?;
+        }
+        Ok(copy)
+    }
+}
+
+impl Members {
+    #[cycle(copy)]
+    pub fn try_copy(&self, alloc: Global) -> Result<Members, TreeFault>
+        ensures { IfOk result (λ v. v ≡ self.now) }
+    {
+        let mut pairs: Vec<(Text, Value)> = Vec::new(alloc);
+        for i in 0..self.pairs.len() {
+            let pair = &self.pairs[i];
+            let name = pair.0.try_copy(alloc)?;
+            let value = pair.1.try_copy(alloc)?;
+            pairs.push((name, value))?;
+        }
+        Ok(Members { pairs })
+    }
+}
