@@ -3,3 +3,6 @@ pub mod Tree
 pub mod View
 pub mod Falls
 pub mod Members
+pub mod Places
+pub mod Id
+pub mod Doc

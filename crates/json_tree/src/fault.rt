@@ -16,6 +16,7 @@ pub enum TreeFault {
     /// The empty text is no id.
     #[error("id is an empty text")]
     EmptyId,
+    /// Want of memory.
     #[error("no memory")]
     NoMemory,
 }

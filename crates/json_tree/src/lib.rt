@@ -1,12 +1,25 @@
 //! JSON values as trees.
 #![tactic(auto)]
 
+mod builder;
+mod decimal;
+mod doc;
 mod fault;
+mod id;
+mod key;
+mod laws;
 mod num;
+#[cfg(test)]
+mod tests;
 mod text;
 mod value;
 
+pub use builder::ObjectBuilder;
+pub use decimal::scale;
+pub use doc::Doc;
 pub use fault::TreeFault;
+pub use id::DocId;
+pub use laws::{ids_are_ordered, key_bytes_are_ordered, products_are_exact};
 pub use num::Num;
 pub use text::Text;
 pub use value::{Items, Members, Value};

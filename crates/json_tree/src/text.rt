@@ -20,6 +20,7 @@ impl Model for Text {
 }
 
 impl Text {
+    /// A copy of a text.
     pub fn of_str(alloc: Global, text: &str) -> Result<Text, TreeFault>
         ensures ok { IfOk result (λ t. t ≡ text.now) }
         ensures err { IfErr result (λ e. e ≡ NoMemory) }
@@ -36,12 +37,14 @@ impl Text {
         Text { inner: text }
     }
 
+    /// The text, lent.
     pub fn as_str(&self) -> &str
         ensures { result.now ≡ self.now }
     {
         self.inner.as_str()
     }
 
+    /// The same text, in memory of its own.
     pub fn try_copy(&self, alloc: Global) -> Result<Text, TreeFault>
         ensures ok { IfOk result (λ t. t ≡ self.now) }
         ensures err { IfErr result (λ e. e ≡ NoMemory) }
@@ -49,6 +52,7 @@ impl Text {
         Text::of_str(alloc, self.as_str())
     }
 
+    /// Whether the bytes agree.
     pub fn same(&self, other: &Text) -> bool
         ensures { IsTrue result ↔ (self.now ≡ other.now) }
     {

@@ -1,5 +1,9 @@
-ghost use Rattle.std.specs.Prelude.{◌≡◌, [], ◌∷◌, ◌++◌, ◌<◌, ◌≤◌, length, slice_get, slice_set, slice_index_or, insert, remove, option_map, IfOk, OnOk, OnErr, IsTrue, ◌↔◌};
+ghost use Rattle.std.specs.Prelude.{◌≡◌, [], ◌∷◌, ◌++◌, ◌<◌, ◌≤◌, length, slice_get, slice_set, slice_index_or, insert, remove, option_map, IfOk, IfErr, OnOk, OnErr, IsTrue, ◌↔◌, ◌||◌};
 ghost use Rattle.json_tree.specs.View.{tree, pair_of};
+ghost use Rattle.json_tree.specs.Tree.{elements_of, members_of};
+ghost use Rattle.json_tree.specs.Id.{id_fault};
+ghost use Rattle.json_tree.specs.Doc.{IsDocument, is_dollar, has_dollar_name, elements_dollar_name, members_dollar_name};
+ghost use Rattle.json_tree.specs.declared.fault.TreeFault.TheVariants.{NoMemory};
 ghost use Rattle.json_tree.specs.Members.{place_of, member_at, put_member, without_member, revalue, all_distinct};
 
 use crate::fault::TreeFault;
@@ -9,6 +13,7 @@ use std::alloc::Global;
 use std::marker::Model;
 use std::mem;
 
+/// A JSON value; a date is a moment in milliseconds since 1970.
 #[cycle(value)]
 #[derive(Drop)]
 pub enum Value {
@@ -28,7 +33,7 @@ pub struct Items {
     items: Vec<Value>,
 }
 
-/// Pairs of name and value.
+/// The members of an object: pairs of distinct names and values, in their order.
 #[cycle(value)]
 #[derive(Drop)]
 pub struct Members {
@@ -85,6 +90,7 @@ impl Model for Members {
 }
 
 impl Items {
+    /// A list with no elements.
     pub fn new(alloc: Global) -> Items
         ensures { result ≡ [] }
     {
@@ -93,36 +99,43 @@ impl Items {
         }
     }
 
+    /// How many elements it has.
     pub fn len(&self) -> usize
         ensures { result ≡ length self.now }
     {
         self.items.len()
     }
 
+    /// The element at a place.
     pub fn get(&self, place: usize) -> Option<&Value>
         ensures { option_map (λ v. tree v.now) result ≡ slice_get self.now place }
     {
         self.items.get(place)
     }
 
+    /// Adds a value at the end.
     pub fn push(&mut self, value: Value) -> Result<(), TreeFault>
         ensures ok { OnOk result (self.new ≡ self.old ++ tree value ∷ []) }
+        ensures refused { IfErr result (λ e. e ≡ NoMemory) }
         ensures err { OnErr result (self.new ≡ self.old) }
     {
         self.items.push(value)?;
         Ok(())
     }
 
+    /// Puts a value before the element at a place, or at the end.
     #[tactic(auto, using(crate::proofs::Lists::mapped))]
     pub fn insert(&mut self, place: usize, value: Value) -> Result<(), TreeFault>
         requires { place ≤ length self.old }
         ensures ok { OnOk result (self.new ≡ insert self.old place (tree value)) }
+        ensures refused { IfErr result (λ e. e ≡ NoMemory) }
         ensures err { OnErr result (self.new ≡ self.old) }
     {
         self.items.insert(place, value)?;
         Ok(())
     }
 
+    /// Replaces the element at a place, and hands the old one back.
     #[tactic(auto, using(crate::proofs::Lists::mapped))]
     pub fn swap_in(&mut self, place: usize, value: Value) -> Value
         requires { place < length self.old }
@@ -132,6 +145,7 @@ impl Items {
         mem::replace(&mut self.items[place], value)
     }
 
+    /// Takes the element at a place out, and closes up.
     #[tactic(auto, using(crate::proofs::Lists::mapped))]
     pub fn remove(&mut self, place: usize) -> Value
         requires { place < length self.old }
@@ -143,6 +157,7 @@ impl Items {
 }
 
 impl Members {
+    /// An object with no members.
     pub fn new(alloc: Global) -> Members
         ensures { result ≡ [] }
     {
@@ -151,6 +166,7 @@ impl Members {
         }
     }
 
+    /// How many members it has. Their names are distinct.
     pub fn len(&self) -> usize
         ensures value { result ≡ length self.now }
         ensures distinct { IsTrue (all_distinct self.now) }
@@ -159,7 +175,7 @@ impl Members {
     }
 
     /// The place of a name, or the length.
-    fn place(&self, name: &str) -> usize
+    pub(crate) fn place(&self, name: &str) -> usize
         ensures value { result ≡ place_of name.now self.now }
         ensures within { result ≤ length self.now }
     {
@@ -171,6 +187,15 @@ impl Members {
         self.pairs.len()
     }
 
+    /// The name of the pair at a place.
+    pub(crate) fn name(&self, place: usize) -> &str
+        requires { place < length self.now }
+        ensures { option_map (λ p. p.0) (slice_get self.now place) ≡ Some result.now }
+    {
+        self.pairs[place].0.as_str()
+    }
+
+    /// The value of a name.
     pub fn get(&self, name: &str) -> Option<&Value>
         ensures { option_map (λ v. tree v.now) result ≡ member_at name.now self.now }
     {
@@ -189,8 +214,11 @@ impl Members {
         mem::replace(&mut self.pairs[place].1, value)
     }
 
+    /// Replaces the value of a name that is there, in its place, and else adds the pair at the end.
+    /// This looks through all names: `ObjectBuilder` is for objects of many members.
     pub fn put(&mut self, name: Text, value: Value) -> Result<(), TreeFault>
         ensures ok { OnOk result (self.new ≡ put_member name (tree value) self.old) }
+        ensures refused { IfErr result (λ e. e ≡ NoMemory) }
         ensures err { OnErr result (self.new ≡ self.old) }
     {
         let place = self.place(name.as_str());
@@ -198,10 +226,21 @@ impl Members {
             self.swap_in(place, value);
             return Ok(());
         }
+        self.add(name, value)
+    }
+
+    /// Adds the pair of a name that isn't there.
+    pub(crate) fn add(&mut self, name: Text, value: Value) -> Result<(), TreeFault>
+        requires { length self.old ≤ place_of name self.old }
+        ensures ok { OnOk result (self.new ≡ self.old ++ (name, tree value) ∷ []) }
+        ensures refused { IfErr result (λ e. e ≡ NoMemory) }
+        ensures err { OnErr result (self.new ≡ self.old) }
+    {
         self.pairs.push((name, value))?;
         Ok(())
     }
 
+    /// Takes the pair of a name out, closes up, and hands its value back.
     pub fn remove(&mut self, name: &str) -> Option<Value>
         ensures old { option_map tree result ≡ member_at name.now self.old }
         ensures new { self.new ≡ without_member name.now self.old }
@@ -215,6 +254,7 @@ impl Members {
         }
     }
 
+    /// The pair at a place.
     pub fn pair(&self, place: usize) -> Option<(&Text, &Value)>
         ensures { option_map (λ p. (p.0.now, tree p.1.now)) result ≡ slice_get self.now place }
     {
@@ -226,9 +266,11 @@ impl Members {
 }
 
 impl Value {
+    /// The same value, in memory of its own.
     #[cycle(copy)]
     pub fn try_copy(&self, alloc: Global) -> Result<Value, TreeFault>
-        ensures { IfOk result (λ v. v ≡ self.now) }
+        ensures ok { IfOk result (λ v. v ≡ self.now) }
+        ensures err { IfErr result (λ e. e ≡ NoMemory) }
     {
         match self {
             Value::Null => Ok(Value::Null),
@@ -241,6 +283,7 @@ impl Value {
         }
     }
 
+    /// Whether kinds and parts agree, members in the same order.
     #[cycle(same)]
     #[tactic(auto, using(crate::proofs::Trees::trees))]
     pub fn same(&self, other: &Value) -> bool
@@ -260,6 +303,7 @@ impl Value {
 }
 
 impl Items {
+    /// Whether all parts agree, in their order.
     #[cycle(same)]
     #[tactic(auto, using(crate::proofs::Lists::agrees))]
     pub fn same(&self, other: &Items) -> bool
@@ -278,6 +322,7 @@ impl Items {
 }
 
 impl Members {
+    /// Whether all parts agree, in their order.
     #[cycle(same)]
     #[tactic(auto, using(crate::proofs::Lists::agrees))]
     pub fn same(&self, other: &Members) -> bool
@@ -303,24 +348,28 @@ fn same_pair(a: &(Text, Value), b: &(Text, Value)) -> bool
 }
 
 impl Items {
+    /// The same value, in memory of its own.
     #[cycle(copy)]
     pub fn try_copy(&self, alloc: Global) -> Result<Items, TreeFault>
-        ensures { IfOk result (λ v. v ≡ self.now) }
+        ensures ok { IfOk result (λ v. v ≡ self.now) }
+        ensures err { IfErr result (λ e. e ≡ NoMemory) }
     {
-        let mut copy = Items::new(alloc);
+        let mut items = Vec::with_capacity(alloc, self.items.len())?;
         for i in 0..self.items.len() {
-            copy.push(self.items[i].try_copy(alloc)?)?;
+            items.push(self.items[i].try_copy(alloc)?)?;
         }
-        Ok(copy)
+        Ok(Items { items })
     }
 }
 
 impl Members {
+    /// The same value, in memory of its own.
     #[cycle(copy)]
     pub fn try_copy(&self, alloc: Global) -> Result<Members, TreeFault>
-        ensures { IfOk result (λ v. v ≡ self.now) }
+        ensures ok { IfOk result (λ v. v ≡ self.now) }
+        ensures err { IfErr result (λ e. e ≡ NoMemory) }
     {
-        let mut pairs: Vec<(Text, Value)> = Vec::new(alloc);
+        let mut pairs: Vec<(Text, Value)> = Vec::with_capacity(alloc, self.pairs.len())?;
         for i in 0..self.pairs.len() {
             let pair = &self.pairs[i];
             let name = pair.0.try_copy(alloc)?;
@@ -328,5 +377,88 @@ impl Members {
             pairs.push((name, value))?;
         }
         Ok(Members { pairs })
+    }
+}
+
+impl Value {
+    /// Whether a member name at any depth begins with `$`.
+    #[cycle(dollar)]
+    pub fn has_dollar_name(&self) -> bool
+        ensures { result ≡ has_dollar_name (tree self.now) }
+    {
+        match self {
+            Value::List(items) => items.have_dollar_name(),
+            Value::Object(members) => members.have_dollar_name(),
+            _ => false,
+        }
+    }
+
+    /// Why the value is no id, if it is none.
+    pub fn id_fault(&self) -> Option<TreeFault>
+        ensures { result ≡ id_fault (tree self.now) }
+    {
+        match self {
+            Value::Text(t) if t.as_str().is_empty() => Some(TreeFault::EmptyId),
+            Value::List(_) => Some(TreeFault::BadIdKind),
+            Value::Object(_) => Some(TreeFault::BadIdKind),
+            _ => None,
+        }
+    }
+
+    /// Whether the value is an object with an id, in which no member name begins with `$`.
+    pub fn is_document(&self) -> bool
+        ensures { IsTrue result ↔ IsDocument (tree self.now) }
+    {
+        match self {
+            Value::Object(members) => match members.get("_id") {
+                Some(id) => id.id_fault().is_none() && !members.have_dollar_name(),
+                None => false,
+            },
+            _ => false,
+        }
+    }
+}
+
+impl Items {
+    #[cycle(dollar)]
+    fn have_dollar_name(&self) -> bool
+        ensures { result ≡ elements_dollar_name (elements_of self.now) }
+    {
+        for i in 0..self.items.len() {
+            if self.items[i].has_dollar_name() {
+                return true;
+            }
+        }
+        false
+    }
+}
+
+impl Members {
+    #[cycle(dollar)]
+    fn have_dollar_name(&self) -> bool
+        ensures { result ≡ members_dollar_name (members_of self.now) }
+    {
+        for i in 0..self.pairs.len() {
+            if pair_has_dollar_name(&self.pairs[i]) {
+                return true;
+            }
+        }
+        false
+    }
+}
+
+#[cycle(dollar)]
+fn pair_has_dollar_name(pair: &(Text, Value)) -> bool
+    ensures { result ≡ (is_dollar pair.now.0 || has_dollar_name (tree pair.now.1)) }
+{
+    begins_with_dollar(pair.0.as_str().as_bytes()) || pair.1.has_dollar_name()
+}
+
+fn begins_with_dollar(name: &[u8]) -> bool
+    ensures { result ≡ is_dollar name.now }
+{
+    match name.first() {
+        Some(first) => *first == b'$',
+        None => false,
     }
 }
