@@ -1,0 +1,12 @@
+use Rattle.std.proofs.Common.{◌≡◌, ◌≤◌}
+use Rattle.json_text.specs.Print.{trimmed}
+use Rattle.json_text.proofs.measure.fraction_len.Given as goal
+
+abbrev pub invariant-zeros : goal.invariant-zeros
+invariant-zeros l = record {
+  few : l.k ≤ 18;
+  same : trimmed l.k l.left ≡ trimmed 18 l.n;
+}
+
+abbrev pub decreases-zeros : goal.decreases-zeros
+decreases-zeros l = l.k

@@ -1,0 +1,10 @@
+use Rattle.std.proofs.Common.{◌≡◌, ◌++◌, length}
+use Rattle.std.specs.List.{flat_map}
+use Rattle.json_text.specs.Print.{escaped}
+use Rattle.json_text.proofs.print.print_content.Given as goal
+
+abbrev pub invariant-parts : goal.invariant-parts
+invariant-parts l = l.out.items ++ flat_map escaped l.rest ≡ l.initial.out.items ++ flat_map escaped l.text
+
+abbrev pub decreases-parts : goal.decreases-parts
+decreases-parts l = length l.rest

@@ -1,0 +1,5 @@
+use Rattle.json_text.proofs.Printed.{reads_back}
+use Rattle.json_text.proofs.print.reads_back.Goals as goal
+
+pub returns : goal.returns
+returns c = reads_back

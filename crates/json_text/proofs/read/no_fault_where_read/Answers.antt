@@ -1,0 +1,5 @@
+use Rattle.json_text.proofs.Readings.{none_where_read}
+use Rattle.json_text.proofs.read.no_fault_where_read.Goals as goal
+
+pub returns : goal.returns
+returns c = none_where_read

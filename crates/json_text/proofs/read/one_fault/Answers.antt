@@ -1,0 +1,5 @@
+use Rattle.json_text.proofs.Readings.{one}
+use Rattle.json_text.proofs.read.one_fault.Goals as goal
+
+pub returns : goal.returns
+returns c = one

@@ -1,0 +1,25 @@
+-- A string, a character at a time. Only the crate's private clauses cite it.
+use Rattle.std.specs.Prelude.{◌≡◌, ℕ, ◌<◌, Bool, not, nat_le, List, [], ◌∷◌, ◌&&◌, ◌==◌, if◌then◌else◌, Option, Some, None, option_map, length, encode_utf8}
+use Rattle.json_text.specs.Text.{Within, string_at, plain, after, code_unit}
+use Rattle.json_text.specs.declared.string.Part.{Part}
+use Rattle.json_text.specs.declared.string.Part.TheVariants.{Closing, Char, Malformed}
+
+-- what stands at the front of the bytes, within a string
+abbrev pub IsPart : Within → List ℕ → Part → Type 0
+IsPart within bytes (Closing rest) = string_at within bytes ≡ Some ([], rest.now)
+IsPart within bytes (Char c rest) = (string_at within bytes ≡ after (encode_utf8 c) (string_at plain rest.now)) × (length rest.now < length bytes)
+IsPart within bytes Malformed = string_at within bytes ≡ None
+
+-- the code unit of four digits at the front, and what follows
+abbrev pub unit_at : List ℕ → Option (ℕ × List ℕ)
+unit_at (a ∷ b ∷ c ∷ d ∷ xs) = option_map (λ u. (u, xs)) (code_unit a b c d)
+unit_at bytes = None
+
+-- the same behind `\u`
+abbrev pub escaped_unit_at : List ℕ → Option (ℕ × List ℕ)
+escaped_unit_at (s ∷ u ∷ xs) = if (s == 92) && (u == 117) then unit_at xs else None
+escaped_unit_at bytes = None
+
+-- a byte that stands for itself
+abbrev pub is_plain : ℕ → Bool
+is_plain x = not (x == 34) && not (x == 92) && nat_le 32 x

@@ -1,0 +1,47 @@
+-- The values that texts can spell.
+use Rattle.std.specs.Prelude.{◌≡◌, ℕ, suc, ◌<◌, ◌^◌, ℤ, pos, negsuc, List, [], ◌∷◌, ◌++◌, max, false, ⊤, None}
+use Rattle.std.specs.List.{list_any}
+use Rattle.std.specs.Str.{bytes_eq, IsUtf8}
+use Rattle.json_tree.specs.Num.{IsNumber}
+use Rattle.json_tree.specs.Tree.{Tree, null, boolean, number, text, date, list, object, Elements, no_elements, element, Members, no_members, member, list_of_members}
+use Rattle.json_text.specs.Grammar.{date_of}
+
+-- a date counts as one level
+abbrev mutual
+  pub tree_levels : Tree → ℕ
+  tree_levels (date n) = 1
+  tree_levels (list vs) = suc (elements_levels vs)
+  tree_levels (object ms) = suc (members_levels ms)
+  tree_levels v = 0
+
+  pub elements_levels : Elements → ℕ
+  elements_levels no_elements = 0
+  elements_levels (element v vs) = max (tree_levels v) (elements_levels vs)
+
+  pub members_levels : Members → ℕ
+  members_levels no_members = 0
+  members_levels (member n v ms) = max (tree_levels v) (members_levels ms)
+
+abbrev pub IsI64 : ℤ → Type 0
+IsI64 (pos n) = n < 2 ^ 63
+IsI64 (negsuc n) = n < 2 ^ 63
+
+-- Texts are UTF-8, numbers and dates in range, the names of an object differ, and no object is one that stands for a date.
+abbrev mutual
+  pub IsWritable : Tree → Type 0
+  IsWritable null = ⊤
+  IsWritable (boolean b) = ⊤
+  IsWritable (number n) = IsNumber n
+  IsWritable (text s) = IsUtf8 s
+  IsWritable (date n) = IsI64 n
+  IsWritable (list vs) = AreWritable vs
+  IsWritable (object ms) = MembersAreWritable [] ms × (date_of (list_of_members ms) ≡ None)
+
+  pub AreWritable : Elements → Type 0
+  AreWritable no_elements = ⊤
+  AreWritable (element v vs) = IsWritable v × AreWritable vs
+
+  -- after members with these names
+  pub MembersAreWritable : List (List ℕ) → Members → Type 0
+  MembersAreWritable names no_members = ⊤
+  MembersAreWritable names (member n v ms) = IsUtf8 n × (list_any (λ m. bytes_eq m n) names ≡ false) × IsWritable v × MembersAreWritable (names ++ n ∷ []) ms

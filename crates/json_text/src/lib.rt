@@ -1,0 +1,20 @@
+//! JSON texts.
+#![tactic(auto)]
+
+mod builder;
+mod chars;
+mod decimal;
+mod lex;
+mod measure;
+mod numeral;
+mod print;
+mod read;
+mod scalars;
+mod string;
+
+pub use measure::text_len;
+pub use print::{canon, print_content, print_value, reads_back};
+pub use read::{TextFault, no_fault_where_read, one_fault, one_value, read_value};
+
+#[cfg(test)]
+mod tests;

@@ -1,0 +1,247 @@
+// Printing.
+ghost use Rattle.std.specs.Prelude.{◌≡◌, ◌==◌, ◌<◌, ◌≤◌, ◌^◌, ℕ, List, ◌∷◌, ◌++◌, [], OnOk, IfOk, IfErr};
+ghost use Rattle.std.specs.List.{flat_map};
+ghost use Rattle.std.specs.Char.{digit_char};
+ghost use Rattle.std.specs.Fmt.{signed_decimal};
+ghost use Rattle.json_tree.specs.Tree.{Tree, list, object, elements_of, members_of};
+ghost use Rattle.json_tree.specs.View.{tree};
+ghost use Rattle.json_text.specs.Grammar.{Reads};
+ghost use Rattle.json_text.specs.Writable.{IsWritable, tree_levels};
+ghost use Rattle.json_text.specs.declared.read.TextFault.TheVariants.{NoMemory};
+ghost use Rattle.json_text.specs.Print.{escaped, string_text, padded, trimmed, with_point, magnitude_text, number_text, boolean_text, date_text, separator, text_of};
+
+use crate::read::TextFault;
+use crate::string::plain_len;
+use json_tree::{Items, Members, Value};
+use std::alloc::{AllocError, Global};
+
+fn digit_char(digit: u8) -> u8
+    requires { digit < 16 }
+    ensures { result ≡ digit_char digit }
+{
+    if digit < 10 {
+        b'0' + digit
+    } else {
+        b'a' + (digit - 10)
+    }
+}
+
+#[tactic(auto, unfolding(crate::specs::Print::escaped))]
+fn print_byte(b: u8, out: &mut Vec<u8>) -> Result<(), AllocError>
+    ensures { OnOk result (out.new.items ≡ out.old.items ++ escaped b) }
+{
+    match b {
+        b'"' => out.extend_from_slice(b"\\\""),
+        b'\\' => out.extend_from_slice(b"\\\\"),
+        8 => out.extend_from_slice(b"\\b"),
+        9 => out.extend_from_slice(b"\\t"),
+        10 => out.extend_from_slice(b"\\n"),
+        12 => out.extend_from_slice(b"\\f"),
+        13 => out.extend_from_slice(b"\\r"),
+        0..0x20 => {
+            let spelled = [
+                b'\\',
+                b'u',
+                b'0',
+                b'0',
+                digit_char(b / 16),
+                digit_char(b % 16),
+            ];
+            out.extend_from_slice(&spelled)
+        }
+        _ => out.extend_from_slice(&[b]),
+    }
+}
+
+/// Appends what stands between the quotes of the JSON string with this content.
+pub fn print_content(text: &[u8], out: &mut Vec<u8>) -> Result<(), AllocError>
+    ensures { OnOk result (out.new.items ≡ out.old.items ++ flat_map escaped text.now) }
+{
+    let mut rest = text;
+    'parts: loop {
+        let (plain, from) = rest.split_at(plain_len(rest));
+        out.extend_from_slice(plain)?;
+        match from {
+            [] => return Ok(()),
+            [b, after @ ..] => {
+                print_byte(*b, out)?;
+                rest = after;
+            }
+        }
+    }
+}
+
+fn print_string(text: &str, out: &mut Vec<u8>) -> Result<(), AllocError>
+    ensures { OnOk result (out.new.items ≡ out.old.items ++ string_text text.now) }
+{
+    out.push(b'"')?;
+    print_content(text.as_bytes(), out)?;
+    out.push(b'"')?;
+    Ok(())
+}
+
+#[tactic(auto, using(crate::proofs::Prints::digits), unfolding(crate::specs::Print::padded))]
+fn print_digits(digits: u32, unit: u64, n: u64, out: &mut Vec<u8>) -> Result<(), AllocError>
+    requires unit { (unit ≡ 10 ^ digits) × (digits ≤ 18) }
+    requires small { n < unit }
+    ensures { OnOk result (out.new.items ≡ out.old.items ++ padded digits n) }
+{
+    let mut left = n;
+    let mut unit = unit;
+    let mut k = digits;
+    'digits: while k > 0 {
+        unit /= 10;
+        out.push(b'0' + (left / unit) as u8)?;
+        left %= unit;
+        k -= 1;
+    }
+    Ok(())
+}
+
+#[tactic(auto, using(crate::proofs::Prints::fractions))]
+fn print_fraction(n: u64, out: &mut Vec<u8>) -> Result<(), AllocError>
+    requires { n < 10 ^ 18 }
+    ensures { OnOk result (out.new.items ≡ out.old.items ++ with_point (trimmed 18 n)) }
+{
+    let mut left = n;
+    let mut unit = 1_000_000_000_000_000_000;
+    let mut k = 18;
+    'zeros: while k > 0 && left % 10 == 0 {
+        left /= 10;
+        unit /= 10;
+        k -= 1;
+    }
+    if k == 0 {
+        return Ok(());
+    }
+    out.push(b'.')?;
+    print_digits(k, unit, left, out)?;
+    Ok(())
+}
+
+fn print_magnitude(n: u128, out: &mut Vec<u8>) -> Result<(), AllocError>
+    ensures { OnOk result (out.new.items ≡ out.old.items ++ magnitude_text n) }
+{
+    let mut buffer = itoa::Buffer::new();
+    let whole = buffer.format(n / 1_000_000_000_000_000_000);
+    out.extend_from_slice(whole.as_bytes())?;
+    print_fraction((n % 1_000_000_000_000_000_000) as u64, out)?;
+    Ok(())
+}
+
+fn print_number(units: i128, out: &mut Vec<u8>) -> Result<(), AllocError>
+    ensures { OnOk result (out.new.items ≡ out.old.items ++ number_text units) }
+{
+    if units < 0 {
+        out.push(b'-')?;
+    }
+    print_magnitude(units.unsigned_abs(), out)?;
+    Ok(())
+}
+
+fn print_date(date: i64, out: &mut Vec<u8>) -> Result<(), AllocError>
+    ensures { OnOk result (out.new.items ≡ out.old.items ++ date_text date) }
+{
+    out.extend_from_slice(b"{\"$date\":")?;
+    let mut buffer = itoa::Buffer::new();
+    out.extend_from_slice(buffer.format(date).as_bytes())?;
+    out.push(b'}')?;
+    Ok(())
+}
+
+fn print_bool(b: bool, out: &mut Vec<u8>) -> Result<(), AllocError>
+    ensures { OnOk result (out.new.items ≡ out.old.items ++ boolean_text b) }
+{
+    if b {
+        out.extend_from_slice(b"true")?;
+    } else {
+        out.extend_from_slice(b"false")?;
+    }
+    Ok(())
+}
+
+// What stands before the part at this place.
+fn print_separator(place: usize, out: &mut Vec<u8>) -> Result<(), AllocError>
+    ensures { OnOk result (out.new.items ≡ out.old.items ++ separator (place == 0)) }
+{
+    if place > 0 {
+        out.push(b',')?;
+    }
+    Ok(())
+}
+
+#[cycle(print)]
+#[tactic(auto, using(crate::proofs::Steps::sizes, crate::proofs::Steps::steps))]
+pub(crate) fn print_tree(value: &Value, out: &mut Vec<u8>) -> Result<(), AllocError>
+    ensures { OnOk result (out.new.items ≡ out.old.items ++ text_of (tree value.now)) }
+{
+    match value {
+        Value::Null => out.extend_from_slice(b"null"),
+        Value::Bool(b) => print_bool(*b, out),
+        Value::Num(n) => print_number(n.units(), out),
+        Value::Text(text) => print_string(text.as_str(), out),
+        Value::Date(date) => print_date(*date, out),
+        Value::List(elements) => print_elements(elements, out),
+        Value::Object(members) => print_members(members, out),
+    }
+}
+
+#[cycle(print)]
+#[tactic(auto, using(crate::proofs::Steps::sizes, crate::proofs::Steps::steps))]
+fn print_elements(elements: &Items, out: &mut Vec<u8>) -> Result<(), AllocError>
+    ensures { OnOk result (out.new.items ≡ out.old.items ++ text_of (list (elements_of elements.now))) }
+{
+    out.push(b'[')?;
+    for i in 0..elements.len() {
+        let Some(element) = elements.get(i) else {
+            return Ok(());
+        };
+        print_separator(i, out)?;
+        print_tree(element, out)?;
+    }
+    out.push(b']')?;
+    Ok(())
+}
+
+#[cycle(print)]
+#[tactic(auto, using(crate::proofs::Steps::sizes, crate::proofs::Steps::steps))]
+fn print_members(members: &Members, out: &mut Vec<u8>) -> Result<(), AllocError>
+    ensures { OnOk result (out.new.items ≡ out.old.items ++ text_of (object (members_of members.now))) }
+{
+    out.push(b'{')?;
+    for i in 0..members.len() {
+        let Some((name, value)) = members.pair(i) else {
+            return Ok(());
+        };
+        print_separator(i, out)?;
+        print_string(name.as_str(), out)?;
+        out.push(b':')?;
+        print_tree(value, out)?;
+    }
+    out.push(b'}')?;
+    Ok(())
+}
+
+/// Appends the canonical text of the value.
+pub fn print_value(value: &Value, out: &mut Vec<u8>) -> Result<(), TextFault>
+    ensures ok { OnOk result (out.new.items ≡ out.old.items ++ text_of (tree value.now)) }
+    ensures err { IfErr result (λ e. e ≡ NoMemory) }
+{
+    print_tree(value, out)?;
+    Ok(())
+}
+
+/// The canonical text of the value.
+pub fn canon(alloc: Global, value: &Value) -> Result<Vec<u8>, TextFault>
+    ensures ok { IfOk result (λ out. out.items ≡ text_of (tree value.now)) }
+    ensures err { IfErr result (λ e. e ≡ NoMemory) }
+{
+    let mut out = Vec::new(alloc);
+    print_value(value, &mut out)?;
+    Ok(out)
+}
+
+/// What is printed spells what it was printed from.
+pub fn reads_back()
+    ensures { (v : Tree) → IsWritable v → tree_levels v ≤ 32 → Reads (text_of v) v }
+{}
