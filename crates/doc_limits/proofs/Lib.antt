@@ -1,0 +1,5 @@
+pub mod Steps
+pub mod Named
+pub mod Dollars
+pub mod Counted
+pub mod Totals
