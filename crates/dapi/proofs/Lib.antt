@@ -1,0 +1,10 @@
+pub mod Commands
+pub mod Cuts
+pub mod Ends
+pub mod Pieces
+pub mod Places
+pub mod Served
+pub mod Texts
+pub mod Wanting
+pub mod Whole
+pub mod WordLists

@@ -1,0 +1,11 @@
+pub mod Separated
+pub mod Lines
+pub mod Request
+pub mod Words
+pub mod Asked
+pub mod Document
+pub mod Reply
+pub mod Answer
+pub mod Run
+pub mod Piece
+pub mod Note
