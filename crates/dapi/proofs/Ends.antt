@@ -16,5 +16,5 @@ is_wrong_line ends.NoMemory e = absurd (omega arith)
 pub end_is : (collection : List ℕ) (old new : Ends) (end other : RunEnd) → EndsRun collection old new end → end ≡ other → EndsRun collection old new other
 end_is collection old new end other h e = subst (λ (x : RunEnd). EndsRun collection old new x) e h
 
-pub noted_is : (old new : Option (List ℕ)) (end other : RunEnd) → IsNoted old new (note_of end) → end ≡ other → IsNoted old new (note_of other)
-noted_is old new end other h e = subst (λ (x : RunEnd). IsNoted old new (note_of x)) e h
+pub noted_is : (old new : Option (List ℕ)) (end other : RunEnd) (hindered : Type 0) → IsNoted old new (note_of end) hindered → end ≡ other → IsNoted old new (note_of other) hindered
+noted_is old new end other hindered h e = subst (λ (x : RunEnd). IsNoted old new (note_of x) hindered) e h

@@ -1,6 +1,7 @@
 pub mod Commands
 pub mod Cuts
 pub mod Ends
+pub mod Fronts
 pub mod Pieces
 pub mod Places
 pub mod Served

@@ -1,5 +1,5 @@
 -- What a run says of its end: an exit status, and a line on the notes.
-use Rattle.std.specs.Prelude.{◌≡◌, ℕ, List, [], ◌∷◌, ◌++◌, codes, decimal, take, Option, Bool, ◌==◌, if◌then◌else◌}
+use Rattle.std.specs.Prelude.{◌≡◌, ◌⊎◌, ℕ, List, [], ◌∷◌, ◌++◌, codes, decimal, take, Option, Bool, ◌==◌, if◌then◌else◌}
 use Rattle.std.specs.List.{list_any}
 use Rattle.outside_io.specs.Told.{taken_then}
 use Rattle.dapi.specs.declared.serve.RunEnd.{RunEnd}
@@ -39,6 +39,10 @@ note_at status =
 abbrev pub is_status : ℕ → Bool
 is_status status = list_any (λ s. s == status) (0 ∷ 1 ∷ 2 ∷ 3 ∷ 5 ∷ 6 ∷ 9 ∷ [])
 
--- a front of the note was taken: all of it, where nothing hinders its writing
-abbrev pub IsNoted : Option (List ℕ) → Option (List ℕ) → List ℕ → Type 0
-IsNoted taken_old taken_new note = (count : ℕ) × (taken_new ≡ taken_then taken_old (take count note))
+-- a front of these bytes was taken
+abbrev pub TakesFront : Option (List ℕ) → Option (List ℕ) → List ℕ → Type 0
+TakesFront taken_old taken_new bytes = (count : ℕ) × (taken_new ≡ taken_then taken_old (take count bytes))
+
+-- the whole note was taken; or, where that was hindered, a front of it
+abbrev pub IsNoted : Option (List ℕ) → Option (List ℕ) → List ℕ → Type 0 → Type 0
+IsNoted taken_old taken_new note is_hindered = (taken_new ≡ taken_then taken_old note) ⊎ (is_hindered × TakesFront taken_old taken_new note)

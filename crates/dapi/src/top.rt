@@ -29,9 +29,9 @@ pub fn dapi<S: Source, W: Sink, E: Sink>(
     ensures read_fault { result ≡ 2 → Rose (S.reads_failed source.old) (S.reads_failed source.new) }
     ensures write_fault { result ≡ 3 → Rose (W.writes_failed sink.old) (W.writes_failed sink.new) ⊎ Rose (W.writes_ended sink.old) (W.writes_ended sink.new) }
     ensures too_long { result ≡ 5 → HasRead (S.left source.old) (S.left source.new) (2 ^ 40) }
-    ensures wrong_line { result ≡ 6 → (line : ℕ) × ForSome (S.left source.old) (λ input. HasWrongLine input line) × IsNoted (E.taken notes.old) (E.taken notes.new) (line_note line) }
+    ensures wrong_line { result ≡ 6 → (line : ℕ) × ForSome (S.left source.old) (λ input. HasWrongLine input line) × IsNoted (E.taken notes.old) (E.taken notes.new) (line_note line) (Rose (E.writes_failed notes.old) (E.writes_failed notes.new) ⊎ Rose (E.writes_ended notes.old) (E.writes_ended notes.new)) }
     ensures statuses { IsTrue (is_status result) }
-    ensures noted { (result ≡ 6 → ⊥) → IsNoted (E.taken notes.old) (E.taken notes.new) (note_at result) }
+    ensures noted { (result ≡ 6 → ⊥) → IsNoted (E.taken notes.old) (E.taken notes.new) (note_at result) (Rose (E.writes_failed notes.old) (E.writes_failed notes.new) ⊎ Rose (E.writes_ended notes.old) (E.writes_ended notes.new)) }
     ensures bounded { (count : ℕ) × (count ≤ 2 ^ 40) × HasRead (S.left source.old) (S.left source.new) count }
 {
     let Some(collection) = collection_of(words) else {
@@ -39,6 +39,6 @@ pub fn dapi<S: Source, W: Sink, E: Sink>(
         return 1;
     };
     let end = run_lines(alloc, collection, source, sink);
-    write_end(alloc, notes, end);
+    write_end(notes, end);
     status_of(end)
 }
