@@ -25,3 +25,7 @@ pub mod Escaped
 pub mod PrintedNumbers
 pub mod PrintedUtf8
 pub mod Printed
+pub mod Apart
+pub mod FitTokens
+pub mod Spelled
+pub mod Decided

@@ -10,7 +10,7 @@ use Rattle.json_tree.specs.Tree as tree
 use Rattle.json_text.specs.Token.{Token, Placed, begin_object, end_object, begin_array, end_array, name_separator, value_separator, string, number, boolean, null}
 use Rattle.json_text.specs.Numeral.{is_numeral_byte}
 use Rattle.json_text.specs.Lex.{is_blank, is_letter, string_token, word_token, token_at, tokens_from}
-use Rattle.json_text.specs.Grammar.{tokens_of, elements_tokens, more_elements, fields_tokens, more_fields, date_name, erased, Reads}
+use Rattle.json_text.specs.Grammar.{text_tokens, tokens_of, elements_tokens, more_elements, fields_tokens, more_fields, date_name, erased, Reads}
 use Rattle.json_text.specs.Print.{escaped, string_text, trimmed, with_point, magnitude_text, number_text, boolean_text, date_text, text_of, elements_text, members_text, more_members}
 use Rattle.json_text.specs.Print as print
 use Rattle.json_text.specs.Writable.{IsWritable, AreWritable, MembersAreWritable, IsI64, tree_levels}
@@ -22,7 +22,7 @@ use Rattle.json_text.proofs.Written.{millis, json_of, elements_json, fields_json
 
 -- ---- the tokens of bytes, wherever they stand
 
-abbrev spelled : List ℕ → List Token
+abbrev pub spelled : List ℕ → List Token
 spelled bytes = erased (tokens_from 0 0 bytes)
 
 both_erased : (c : Bool) (a b x y : List Placed) → erased a ≡ erased x → erased b ≡ erased y → erased (cond c a b) ≡ erased (cond c x y)
@@ -253,3 +253,8 @@ reads_back v w low = (
     value = tree_again v w;
   },
 )
+
+-- the tokens of a value's text are its own
+pub text_spells : (v : Tree) → IsWritable v → spelled (text_of v) ≡ text_tokens (json_of v)
+unfolding tokens_from
+text_spells v w = ap spelled (sym (append-nil (text_of v))) ∙ lex_value v w [] (tt, tt)

@@ -1,5 +1,5 @@
 -- What the reader's answer says of the bytes.
-use Rattle.std.proofs.Common.{◌≡◌, ℕ, List, Result, Ok, Err, ◌⊎◌, inl, inr, refl, sym, ap, ap₂, ◌∙◌, subst}
+use Rattle.std.proofs.Common.{◌≡◌, ◌≤◌, ℕ, List, Result, Ok, Err, ◌⊎◌, inl, inr, refl, sym, ap, ap₂, ◌∙◌, subst}
 use Rattle.std.proofs.lemmas.Str.{utf8_valid_len-IsValidUpTo}
 use Rattle.std.specs.Prelude.{IfOk, IfErr}
 use Rattle.std.specs.Str.{IsUtf8}
@@ -18,11 +18,21 @@ use Rattle.json_text.specs.declared.builder.Kind.TheVariants as builder
 use Rattle.json_text.specs.declared.read.TextFault.{TextFault}
 use Rattle.json_text.specs.declared.read.TextFault.TheVariants.{Syntax, NotUtf8, Number, TooDeep, NoMemory}
 use Rattle.json_text.specs.Machine.{Step, fault, End, refused, run, trees, start}
+use Rattle.json_text.specs.Writable.{IsWritable, tree_levels}
+use Rattle.json_text.proofs.Spelled.{reads_writable, reads_low}
 use Rattle.json_text.proofs.Reading.{reads_from_run, fault_from_run, one_first, no_fault_where_read}
 
 pub reads : (bytes : List ℕ) (r : Result Value TextFault) → IsUtf8 bytes → Builds r (run trees start (tokens bytes)) → IfOk r (λ v. Reads bytes (tree v))
 reads bytes (Ok v) u b = reads_from_run bytes (tree v) u b
 reads bytes (Err e) u b = tt
+
+pub writable : (bytes : List ℕ) (r : Result Value TextFault) → IsUtf8 bytes → Builds r (run trees start (tokens bytes)) → IfOk r (λ v. IsWritable (tree v))
+writable bytes (Ok v) u b = reads_writable bytes (tree v) (reads_from_run bytes (tree v) u b)
+writable bytes (Err e) u b = tt
+
+pub low : (bytes : List ℕ) (r : Result Value TextFault) → IsUtf8 bytes → Builds r (run trees start (tokens bytes)) → IfOk r (λ v. tree_levels (tree v) ≤ 32)
+low bytes (Ok v) u b = reads_low bytes (tree v) (reads_from_run bytes (tree v) u b)
+low bytes (Err e) u b = tt
 
 faulty : (bytes : List ℕ) (e : TextFault) → IsUtf8 bytes → Ends e (run trees start (tokens bytes)) → IsFault bytes e
 faulty bytes (Syntax at) u b = fault_from_run bytes syntax at u b

@@ -13,8 +13,8 @@ mod scalars;
 mod string;
 
 pub use measure::text_len;
-pub use print::{canon, print_content, print_value, reads_back};
-pub use read::{TextFault, no_fault_where_read, one_fault, one_value, read_value};
+pub use print::{canon, print_content, print_value, reads_back, texts_tell_values};
+pub use read::{TextFault, no_fault_where_read, one_fault, one_value, read_value, reads_or_fails};
 
 #[cfg(test)]
 mod tests;

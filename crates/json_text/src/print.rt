@@ -245,3 +245,8 @@ pub fn canon(alloc: Global, value: &Value) -> Result<Vec<u8>, TextFault>
 pub fn reads_back()
     ensures { (v : Tree) → IsWritable v → tree_levels v ≤ 32 → Reads (text_of v) v }
 {}
+
+/// Values whose canonical texts are the same are the same.
+pub fn texts_tell_values()
+    ensures { (a b : Tree) → IsWritable a → IsWritable b → text_of a ≡ text_of b → a ≡ b }
+{}

@@ -1,9 +1,10 @@
 // Reading a value.
-ghost use Rattle.std.specs.Prelude.{◌≡◌, ◌⊎◌, ℕ, List, IfOk, IfErr};
+ghost use Rattle.std.specs.Prelude.{◌≡◌, ◌≤◌, ◌⊎◌, ℕ, List, IfOk, IfErr};
 ghost use Rattle.json_tree.specs.Tree.{Tree};
 ghost use Rattle.json_tree.specs.View.{tree};
 ghost use Rattle.json_text.specs.Grammar.{Reads};
 ghost use Rattle.json_text.specs.Fault.{IsFault};
+ghost use Rattle.json_text.specs.Writable.{IsWritable, tree_levels};
 ghost use Rattle.json_text.specs.declared.read.TextFault.{TextFault};
 ghost use Rattle.json_text.specs.declared.read.TextFault.TheVariants.{NoMemory};
 ghost use Rattle.json_text.specs.Lex.{tokens};
@@ -97,6 +98,8 @@ fn read_text(alloc: Global, text: &str) -> Result<Value, TextFault>
 /// The value that the bytes spell.
 pub fn read_value(alloc: Global, bytes: &[u8]) -> Result<Value, TextFault>
     ensures reads { IfOk result (λ v. Reads bytes.now (tree v)) }
+    ensures writable { IfOk result (λ v. IsWritable (tree v)) }
+    ensures levels { IfOk result (λ v. tree_levels (tree v) ≤ 32) }
     ensures refuses { IfErr result (IsFault bytes.now) }
 {
     match str::from_utf8(bytes) {
@@ -121,4 +124,9 @@ pub fn no_fault_where_read()
 pub fn one_fault()
     ensures { (bytes : List ℕ) (e f : TextFault) → IsFault bytes e → IsFault bytes f
         → (e ≡ NoMemory) ⊎ ((f ≡ NoMemory) ⊎ (e ≡ f)) }
+{}
+
+/// Bytes spell a value, or have a fault other than want of memory.
+pub fn reads_or_fails()
+    ensures { (bytes : List ℕ) → ((v : Tree) × Reads bytes v) ⊎ ((e : TextFault) × IsFault bytes e × (e ≡ NoMemory → ⊥)) }
 {}
