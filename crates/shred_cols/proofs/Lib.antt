@@ -1,0 +1,10 @@
+pub mod Adding
+pub mod Pairs
+pub mod Walked
+pub mod Apart
+pub mod Sorted
+pub mod Falling
+pub mod Ascending
+pub mod Keys
+pub mod Stored
+pub mod Ids

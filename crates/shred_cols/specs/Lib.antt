@@ -1,0 +1,9 @@
+pub mod Entry
+pub mod Order
+pub mod Columns
+pub mod Adds
+pub mod Probe
+pub mod SortKey
+pub mod Bytes
+pub mod Row
+pub mod Rows
