@@ -2,7 +2,7 @@
 use Rattle.std.proofs.Common.{◌≡◌, ◌≤◌, ℕ, max, sym, ◌∙◌, ap, arith, None}
 use Rattle.json_tree.specs.Tree.{Tree}
 use Rattle.json_text.specs.Print.{text_of}
-use Rattle.json_text.specs.Writable.{IsWritable}
+use Rattle.json_tree.specs.Writable.{IsWritable}
 use Rattle.json_text.specs.Grammar.{tree_of, levels, text_tokens}
 use Rattle.json_text.specs.Machine.{start, texts_with}
 use Rattle.json_text.proofs.Written.{json_of, all_numbers, tree_again}

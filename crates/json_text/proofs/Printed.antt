@@ -10,10 +10,11 @@ use Rattle.json_tree.specs.Tree as tree
 use Rattle.json_text.specs.Token.{Token, Placed, begin_object, end_object, begin_array, end_array, name_separator, value_separator, string, number, boolean, null}
 use Rattle.json_text.specs.Numeral.{is_numeral_byte}
 use Rattle.json_text.specs.Lex.{is_blank, is_letter, string_token, word_token, token_at, tokens_from}
-use Rattle.json_text.specs.Grammar.{text_tokens, tokens_of, elements_tokens, more_elements, fields_tokens, more_fields, date_name, erased, Reads}
+use Rattle.json_text.specs.Grammar.{text_tokens, tokens_of, elements_tokens, more_elements, fields_tokens, more_fields, erased, Reads}
 use Rattle.json_text.specs.Print.{escaped, string_text, trimmed, with_point, magnitude_text, number_text, boolean_text, date_text, text_of, elements_text, members_text, more_members}
 use Rattle.json_text.specs.Print as print
-use Rattle.json_text.specs.Writable.{IsWritable, AreWritable, MembersAreWritable, IsI64, tree_levels}
+use Rattle.json_tree.specs.Dates.{date_name}
+use Rattle.json_tree.specs.Writable.{IsWritable, AreWritable, MembersAreWritable, IsI64, tree_levels}
 use Rattle.json_text.proofs.Lexing.{token_next}
 use Rattle.json_text.proofs.Escaped.{content_again}
 use Rattle.json_text.proofs.PrintedNumbers.{StopsAt, run_front, run_rest, number_again, all_number, Starts, number_starts}

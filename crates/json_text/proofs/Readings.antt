@@ -18,7 +18,7 @@ use Rattle.json_text.specs.declared.builder.Kind.TheVariants as builder
 use Rattle.json_text.specs.declared.read.TextFault.{TextFault}
 use Rattle.json_text.specs.declared.read.TextFault.TheVariants.{Syntax, NotUtf8, Number, TooDeep, NoMemory}
 use Rattle.json_text.specs.Machine.{Step, fault, End, refused, run, trees, start}
-use Rattle.json_text.specs.Writable.{IsWritable, tree_levels}
+use Rattle.json_tree.specs.Writable.{IsWritable, tree_levels}
 use Rattle.json_text.proofs.Spelled.{reads_writable, reads_low}
 use Rattle.json_text.proofs.Reading.{reads_from_run, fault_from_run, one_first, no_fault_where_read}
 

@@ -7,9 +7,10 @@ use Rattle.json_tree.specs.Tree.{Tree, Members, no_members, member, members_of, 
 use Rattle.json_tree.specs.Members.{put_member}
 use Rattle.json_tree.specs.Tree as tree
 use Rattle.json_text.specs.Token.{Token, end}
-use Rattle.json_text.specs.Grammar.{Json, null, boolean, number, string, array, object, Fields, no_fields, field, tokens_of, elements_tokens, more_elements, fields_tokens, more_fields, text_tokens, levels, fields_levels, whole_i64, date_of, date_or_object, object_value, tree_of, with_fields, erased, Spells, Reads}
+use Rattle.json_text.specs.Grammar.{Json, null, boolean, number, string, array, object, Fields, no_fields, field, tokens_of, elements_tokens, more_elements, fields_tokens, more_fields, text_tokens, levels, fields_levels, date_or_object, object_value, tree_of, with_fields, erased, Spells, Reads}
 use Rattle.json_text.specs.Grammar as json
-use Rattle.json_text.specs.Writable.{tree_levels, elements_levels, members_levels, IsI64, IsWritable, AreWritable, MembersAreWritable}
+use Rattle.json_tree.specs.Dates.{whole_i64, date_of}
+use Rattle.json_tree.specs.Writable.{tree_levels, elements_levels, members_levels, IsI64, IsWritable, AreWritable, MembersAreWritable}
 use Rattle.json_text.proofs.Lexing.{either}
 use Rattle.json_text.proofs.FitTokens.{AllFit, tokens_fit}
 

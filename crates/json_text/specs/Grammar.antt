@@ -1,7 +1,8 @@
 -- The grammar of JSON texts over tokens (RFC 8259, sections 2 to 5), and what a text spells.
-use Rattle.std.specs.Prelude.{◌≡◌, ℕ, suc, ◌/◌, ◌%◌, ◌^◌, ◌≤◌, ℤ, pos, negsuc, neg_ℤ, List, [], ◌∷◌, ◌++◌, map, max, Bool, true, false, IsTrue, if◌then◌else◌, ◌&&◌, ◌==◌, nat_lt, nat_le, Option, Some, None}
-use Rattle.std.specs.Str.{bytes_eq, IsUtf8}
+use Rattle.std.specs.Prelude.{◌≡◌, ℕ, suc, ◌≤◌, ℤ, List, [], ◌∷◌, ◌++◌, map, max, Bool, true, false, IsTrue, ◌&&◌, Option, Some, None}
+use Rattle.std.specs.Str.{IsUtf8}
 use Rattle.json_tree.specs.Tree.{Tree}
+use Rattle.json_tree.specs.Dates.{date_of}
 use Rattle.json_tree.specs.Members.{put_member}
 use Rattle.json_tree.specs.Tree as tree
 use Rattle.json_text.specs.Token.{Token, Placed, begin_object, end_object, begin_array, end_array, name_separator, value_separator, end}
@@ -92,20 +93,6 @@ abbrev mutual
   fields_have_numbers (field n j fs) = has_numbers j && fields_have_numbers fs
 
 -- ---- its value
-
--- the milliseconds of a number that is whole and within 64 bits
-abbrev pub whole_i64 : ℤ → Option ℤ
-whole_i64 (pos n) = if (n % 10 ^ 18 == 0) && nat_lt (n / 10 ^ 18) (2 ^ 63) then Some (pos (n / 10 ^ 18)) else None
-whole_i64 (negsuc n) = if (suc n % 10 ^ 18 == 0) && nat_le (suc n / 10 ^ 18) (2 ^ 63) then Some (neg_ℤ (pos (suc n / 10 ^ 18))) else None
-
--- `$date`
-abbrev pub date_name : List ℕ
-date_name = 36 ∷ 100 ∷ 97 ∷ 116 ∷ 101 ∷ []
-
--- the date that an object is whose one member is `$date`, with a value that is whole and within 64 bits
-abbrev pub date_of : List (List ℕ × Tree) → Option ℤ
-date_of ((n, tree.number z) ∷ []) = if bytes_eq n date_name then whole_i64 z else None
-date_of ms = None
 
 abbrev pub date_or_object : Option ℤ → List (List ℕ × Tree) → Tree
 date_or_object None ms = tree.object (tree.members_of ms)

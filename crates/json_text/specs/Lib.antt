@@ -15,4 +15,3 @@ pub mod Fault
 pub mod Builds
 pub mod Ahead
 pub mod Print
-pub mod Writable

@@ -1,7 +1,8 @@
 // A value, built from tokens.
 ghost use Rattle.std.specs.Prelude.{◌≡◌};
 ghost use Rattle.json_tree.specs.View.{tree};
-ghost use Rattle.json_text.specs.Grammar.{whole_i64, date_of, object_value};
+ghost use Rattle.json_tree.specs.Dates.{whole_i64, date_of};
+ghost use Rattle.json_text.specs.Grammar.{object_value};
 ghost use Rattle.json_text.specs.Machine as machine;
 ghost use Rattle.json_text.specs.View.{token_of};
 ghost use Rattle.json_text.specs.Build.{Makes, slot_of, outer_of, place_of, state_of};

@@ -6,7 +6,7 @@ ghost use Rattle.std.specs.Fmt.{signed_decimal};
 ghost use Rattle.json_tree.specs.Tree.{Tree, list, object, elements_of, members_of};
 ghost use Rattle.json_tree.specs.View.{tree};
 ghost use Rattle.json_text.specs.Grammar.{Reads};
-ghost use Rattle.json_text.specs.Writable.{IsWritable, tree_levels};
+ghost use Rattle.json_tree.specs.Writable.{IsWritable, tree_levels};
 ghost use Rattle.json_text.specs.declared.read.TextFault.TheVariants.{NoMemory};
 ghost use Rattle.json_text.specs.Print.{escaped, string_text, padded, trimmed, with_point, magnitude_text, number_text, boolean_text, date_text, separator, text_of};
 

@@ -4,7 +4,7 @@ ghost use Rattle.json_tree.specs.Tree.{Tree};
 ghost use Rattle.json_tree.specs.View.{tree};
 ghost use Rattle.json_text.specs.Grammar.{Reads};
 ghost use Rattle.json_text.specs.Fault.{IsFault};
-ghost use Rattle.json_text.specs.Writable.{IsWritable, tree_levels};
+ghost use Rattle.json_tree.specs.Writable.{IsWritable, tree_levels};
 ghost use Rattle.json_text.specs.declared.read.TextFault.{TextFault};
 ghost use Rattle.json_text.specs.declared.read.TextFault.TheVariants.{NoMemory};
 ghost use Rattle.json_text.specs.Lex.{tokens};

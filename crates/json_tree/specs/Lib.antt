@@ -6,3 +6,5 @@ pub mod Members
 pub mod Places
 pub mod Id
 pub mod Doc
+pub mod Dates
+pub mod Writable

@@ -4,7 +4,7 @@ use Rattle.std.specs.List.{list_any}
 use Rattle.std.specs.Str.{bytes_eq, IsUtf8}
 use Rattle.json_tree.specs.Num.{IsNumber}
 use Rattle.json_tree.specs.Tree.{Tree, null, boolean, number, text, date, list, object, Elements, no_elements, element, Members, no_members, member, list_of_members}
-use Rattle.json_text.specs.Grammar.{date_of}
+use Rattle.json_tree.specs.Dates.{date_of}
 
 -- a date counts as one level
 abbrev mutual
