@@ -1,0 +1,7 @@
+pub mod Alike
+pub mod Tests
+pub mod Folds
+pub mod Table
+pub mod Walks
+pub mod Readiness
+pub mod Written

@@ -1,0 +1,12 @@
+pub mod Paths
+pub mod Same
+pub mod Filters
+pub mod Matches
+pub mod View
+pub mod Operators
+pub mod Faults
+pub mod Reads
+pub mod Finds
+pub mod Conjuncts
+pub mod Ready
+pub mod Rows

@@ -1,0 +1,351 @@
+// Filters on documents, and refused filters, worked out by hand.
+use crate::{Filter, FilterFault};
+use json_text::read_value;
+use json_tree::Doc;
+use std::alloc::Global;
+use std::test::Fail;
+
+const ORDER: &str =
+    r#"{"_id":"order-1001","customer":{"name":"Ada Lovelace","city":"London"},"items":[{"sku":"A-1","qty":2,"price":19.99},{"sku":"B-7","qty":1,"price":5}],"placed":{"$date":1700000000000},"paid":false,"note":null,"tags":[],"n":-1.5,"grid":[[1,2],[3]],"deep":{"a":{"b":{"c":7}}},"empty":{},"word":"Zoë"}"#;
+
+// Filters, each with what it says of the order.
+const OF_ORDER: &str = r#"{} => yes
+{"_id":"order-1001"} => yes
+{"_id":"order-1002"} => no
+{"_id":{"$eq":"order-1001"}} => yes
+{"_id":["order-1001"]} => no
+{"_id":{"$in":["a","order-1001"]}} => yes
+{"_id":{"$gt":"order-1000"}} => yes
+{"_id":{"$lt":"order-1001"}} => no
+{"_id":{"$lte":"order-1001"}} => yes
+{"customer.city":"London"} => yes
+{"customer.city":"london"} => no
+{"customer":{"name":"Ada Lovelace","city":"London"}} => yes
+{"customer":{"city":"London","name":"Ada Lovelace"}} => no
+{"customer":{"name":"Ada Lovelace"}} => no
+{"customer":{"name":"Ada Lovelace","$gt":1}} => no
+{"customer.age":{"$exists":false}} => yes
+{"customer.age":null} => no
+{"customer.name.first":{"$exists":true}} => no
+{"customer.name.first":{"$ne":"Ada"}} => yes
+{"items.0.qty":2} => yes
+{"items.0.qty":{"$gte":2}} => yes
+{"items.0.qty":{"$gt":2}} => no
+{"items.1.sku":"B-7"} => yes
+{"items.2":{"$exists":true}} => no
+{"items.00.qty":2} => no
+{"items.sku":"A-1"} => no
+{"items.sku":{"$exists":false}} => yes
+{"items":{"$size":2}} => yes
+{"items":{"$size":2.0}} => yes
+{"items":{"$size":1}} => no
+{"items":{"$size":1000000}} => no
+{"items":{"sku":"B-7","qty":1,"price":5}} => yes
+{"items":{"sku":"B-7","qty":1,"price":5.00}} => yes
+{"items":{"sku":"B-7"}} => no
+{"items":[{"sku":"A-1","qty":2,"price":19.99},{"sku":"B-7","qty":1,"price":5}]} => yes
+{"items":[{"sku":"B-7","qty":1,"price":5},{"sku":"A-1","qty":2,"price":19.99}]} => no
+{"placed":{"$date":1700000000000}} => yes
+{"placed":{"$date":1700000000001}} => no
+{"placed":1700000000000} => no
+{"placed":{"$gt":{"$date":1690000000000}}} => yes
+{"placed":{"$gt":1690000000000}} => no
+{"placed":{"$lt":{"$date":1700000000000}}} => no
+{"placed":{"$lte":{"$date":1700000000000}}} => yes
+{"placed":{"$gte":{"$date":-1}}} => yes
+{"placed":{"$in":[1700000000000,{"$date":1700000000000}]}} => yes
+{"paid":false} => yes
+{"paid":0} => no
+{"paid":null} => no
+{"paid":{"$ne":true}} => yes
+{"paid":{"$exists":true}} => yes
+{"note":null} => yes
+{"note":{"$exists":true}} => yes
+{"note":{"$exists":false}} => no
+{"note":{"$ne":null}} => no
+{"note":{"$in":[]}} => no
+{"note":{"$nin":[]}} => yes
+{"note":{"$all":[]}} => yes
+{"note":{}} => no
+{"missing":{"$all":[]}} => yes
+{"missing":{"$in":[null]}} => no
+{"missing":{"$nin":[null]}} => yes
+{"missing":{"$all":[null]}} => no
+{"missing":{"$size":0}} => no
+{"missing":{"$gt":0}} => no
+{"missing":{"$lte":0}} => no
+{"missing":{"$exists":true}} => no
+{"tags":[]} => yes
+{"tags":{"$size":0}} => yes
+{"tags":null} => no
+{"tags":{"$ne":null}} => yes
+{"tags.0":{"$exists":false}} => yes
+{"n":-1.5} => yes
+{"n":-1.50} => yes
+{"n":{"$gt":-2}} => yes
+{"n":{"$gt":-1.5}} => no
+{"n":{"$gte":-1.5}} => yes
+{"n":{"$lt":0}} => yes
+{"n":{"$lt":"0"}} => no
+{"n":{"$gt":""}} => no
+{"n":{"$lte":{"$date":0}}} => no
+{"n":{"$gt":-2,"$lt":-1}} => yes
+{"n":{"$gt":-2,"$lt":-1.6}} => no
+{"n":{"$in":["-1.5"]}} => no
+{"n":{"$in":[1,2,-15e-1]}} => yes
+{"n":{"$nin":[-1.5]}} => no
+{"n":{"$size":1}} => no
+{"n":{"$eq":{"$x":1}}} => no
+{"n":{"$date":5}} => no
+{"grid":[1,2]} => yes
+{"grid":1} => no
+{"grid":[3]} => yes
+{"grid":3} => no
+{"grid.0":1} => yes
+{"grid.0.1":2} => yes
+{"grid":[[1,2],[3]]} => yes
+{"grid":{"$all":[[1,2],[3]]}} => yes
+{"grid":{"$all":[[1,2],[4]]}} => no
+{"grid":{"$in":[3,[4]]}} => no
+{"grid":{"$in":[[4],[3]]}} => yes
+{"grid":{"$gt":0}} => no
+{"grid.0":{"$gt":0}} => no
+{"grid.0.0":{"$lt":2}} => yes
+{"grid.0":{"$ne":3}} => yes
+{"grid.0":{"$ne":1}} => no
+{"grid.0":{"$nin":[3,4]}} => yes
+{"grid.0":{"$nin":[3,2]}} => no
+{"grid.0":{"$all":[2,1]}} => yes
+{"grid.0":{"$all":[2,1,3]}} => no
+{"deep.a.b.c":7} => yes
+{"deep.a.b":{"c":7}} => yes
+{"deep":{"a":{"b":{"c":7}}}} => yes
+{"deep.a":{"b":7}} => no
+{"deep.a.b.c.d":{"$exists":false}} => yes
+{"empty":{}} => yes
+{"empty":{"$eq":{}}} => yes
+{"empty":{"$ne":{}}} => no
+{"empty":{"$in":[{}]}} => yes
+{"empty":{"$exists":true}} => yes
+{"empty":null} => no
+{"empty.x":{"$exists":false}} => yes
+{"word":"Zoë"} => yes
+{"word":"Zoe"} => no
+{"word":{"$gt":"Zoe"}} => yes
+{"word":{"$lt":"Zoë\u0000"}} => yes
+{"word":{"$lt":"a"}} => yes
+{"word":{"$gt":"Zoë"}} => no
+{"word":{"$gte":"Zoë"}} => yes
+{"word":{"$gte":"Zo"}} => yes
+{"word":{"$size":3}} => no
+{"$and":[]} => yes
+{"$or":[]} => no
+{"$not":{}} => no
+{"$not":{"$or":[]}} => yes
+{"$and":[{"paid":false},{"n":{"$lt":0}}]} => yes
+{"$and":[{"paid":false},{"n":{"$gt":0}}]} => no
+{"$or":[{"paid":true},{"n":{"$lt":0}}]} => yes
+{"$or":[{"paid":true},{"n":{"$gt":0}}]} => no
+{"$or":[{}]} => yes
+{"$and":[{"$or":[]},{}]} => no
+{"$not":{"paid":true}} => yes
+{"$not":{"missing":{"$gt":1}}} => yes
+{"$not":{"$not":{"paid":false}}} => yes
+{"$not":{"$and":[{"paid":false},{"n":0}]}} => yes
+{"$and":[{"$and":[{"$and":[]}]}],"$or":[{"n":1},{"$not":{"n":1}}]} => yes
+{"paid":false,"n":-1.5,"customer.city":"London"} => yes
+{"paid":false,"n":-1.5,"customer.city":"Paris"} => no
+{"customer.city":"Paris","paid":false} => no
+{"n":{"$eq":-1.5,"$exists":true,"$ne":1,"$in":[-1.5]}} => yes
+{"paid":true,"paid":false} => yes
+{"paid":false,"paid":true} => no
+{"n":{"$gt":-2,"$gt":0}} => no
+{"n":{"$gt":0,"$gt":-2}} => yes"#;
+
+// Filters, each with what it says of a smaller document.
+const OF_OTHERS: [(&str, &str); 4] = [
+    (
+        r#"{"_id":"t","tags":["x",null,{"k":1}]}"#,
+        r#"{"tags":"x"} => yes
+{"tags":null} => yes
+{"tags.2.k":1} => yes
+{"tags":{"$size":3}} => yes
+{"tags":{"$ne":"x"}} => no
+{"tags":{"k":1}} => yes
+{"tags":{"k":1,"l":2}} => no
+{"tags":["x",null,{"k":1}]} => yes
+{"tags":["x",null]} => no
+{"tags.k":1} => no"#,
+    ),
+    (
+        r#"{"_id":"1","a":{"0":5}}"#,
+        r#"{"a.0":5} => yes
+{"a":5} => no
+{"a":{"$size":1}} => no"#,
+    ),
+    (
+        r#"{"_id":"2","a":[5]}"#,
+        r#"{"a.0":5} => yes
+{"a":5} => yes
+{"a":{"0":5}} => no"#,
+    ),
+    (
+        r#"{"_id":"a"}"#,
+        r#"{"x":{"$ne":1}} => yes
+{"x":{"$nin":[1]}} => yes
+{"$not":{"x":{"$gt":1}}} => yes
+{"x":{"$exists":false}} => yes
+{"x":null} => no"#,
+    ),
+];
+
+// Values that are no filters, each with its first fault.
+const REFUSED: &str = r#"1 => invalid ''
+[] => invalid ''
+"x" => invalid ''
+null => invalid ''
+true => invalid ''
+{"$date":5} => invalid ''
+{"$date":1.5} => unknown '$date'
+{"":1} => invalid ''
+{"a..b":1} => invalid 'a..b'
+{".a":1} => invalid '.a'
+{"a.":1} => invalid 'a.'
+{"a b":1} => invalid 'a b'
+{"é":1} => invalid 'é'
+{"a.$x":1} => invalid 'a.$x'
+{"a":1,"b c":2,"d..e":3} => invalid 'b c'
+{"$near":1} => unknown '$near'
+{"$":1} => unknown '$'
+{"$eq":1} => unknown '$eq'
+{"$exists":true} => unknown '$exists'
+{"$AND":[]} => unknown '$AND'
+{"x":{"$near":1}} => unknown '$near'
+{"x":{"$and":[]}} => unknown '$and'
+{"x":{"$or":[]}} => unknown '$or'
+{"x":{"$not":{}}} => unknown '$not'
+{"x":{"$Eq":1}} => unknown '$Eq'
+{"x":{"$gt":1,"y":2}} => invalid 'x'
+{"x.y":{"$gt":1,"":2}} => invalid 'x.y'
+{"x":{"$gt":null}} => invalid 'x'
+{"x":{"$gte":true}} => invalid 'x'
+{"x":{"$lt":[1]}} => invalid 'x'
+{"x":{"$lte":{}}} => invalid 'x'
+{"x":{"$in":1}} => invalid 'x'
+{"x":{"$in":{"0":1}}} => invalid 'x'
+{"x":{"$nin":null}} => invalid 'x'
+{"x":{"$all":"a"}} => invalid 'x'
+{"x":{"$exists":1}} => invalid 'x'
+{"x":{"$exists":null}} => invalid 'x'
+{"x":{"$size":-1}} => invalid 'x'
+{"x":{"$size":1.5}} => invalid 'x'
+{"x":{"$size":1000001}} => invalid 'x'
+{"x":{"$size":4294967296}} => invalid 'x'
+{"x":{"$size":"3"}} => invalid 'x'
+{"$and":{}} => invalid '$and'
+{"$or":1} => invalid '$or'
+{"$not":[]} => invalid '$not'
+{"$not":{"$date":5}} => invalid '$not'
+{"$and":[{},1]} => invalid '$and'
+{"$or":[{"$date":5}]} => invalid '$or'
+{"$or":[{"a..b":1},1]} => invalid 'a..b'
+{"$or":[1,{"a..b":1}]} => invalid '$or'
+{"$not":{"$not":1}} => invalid '$not'
+{"$and":[{"$or":[{"x":{"$near":1}}]},5],"$foo":1} => unknown '$near'
+{"b c":{"$near":1}} => invalid 'b c'
+{"x":{"$in":1,"$near":2}} => invalid 'x'
+{"x":{"$near":2,"$in":1}} => unknown '$near'
+{"x":{"$date":1.5}} => unknown '$date'
+{"x":{"$date":5,"y":1}} => unknown '$date'
+{"$and":[],"$nor":[]} => unknown '$nor'
+{"x":{"$gt":1},"x":{"$near":1}} => unknown '$near'"#;
+
+// What a filter says of a document.
+fn says(alloc: Global, document: &str, filter: &str) -> Result<&'static str, Fail> {
+    let value = read_value(alloc, document.as_bytes())?;
+    if !value.is_document() {
+        return Ok("no document");
+    }
+    let doc = Doc::of_value(alloc, value)?;
+    let value = read_value(alloc, filter.as_bytes())?;
+    match Filter::read(alloc, &value) {
+        Ok(filter) => Ok(if filter.test(&doc) { "yes" } else { "no" }),
+        Err(_) => Ok("refused"),
+    }
+}
+
+fn says_row(alloc: Global, document: &str, row: &str) -> Result<bool, Fail> {
+    match row.split_once(" => ") {
+        Some((filter, verdict)) => Ok(says(alloc, document, filter)? == verdict),
+        None => Ok(false),
+    }
+}
+
+#[test]
+fn filters_match(rt: HostRuntime) -> Result<(), Fail> {
+    for row in OF_ORDER.split('\n') {
+        assert!(rt; says_row(rt.alloc(), ORDER, row)?, "{row}");
+    }
+    for (document, rows) in OF_OTHERS {
+        for row in rows.split('\n') {
+            assert!(rt; says_row(rt.alloc(), document, row)?, "{row}");
+        }
+    }
+    Ok(())
+}
+
+fn shown(alloc: Global, fault: &FilterFault) -> Result<String, Fail> {
+    match fault {
+        FilterFault::Invalid { path } => {
+            let path = path.as_str();
+            Ok(format!(in alloc; "invalid '{path}'")?)
+        }
+        FilterFault::UnknownOperator { name } => {
+            let name = name.as_str();
+            Ok(format!(in alloc; "unknown '{name}'")?)
+        }
+        FilterFault::TooManyOperands { found } => Ok(format!(in alloc; "many {found}")?),
+        FilterFault::NoMemory => Ok(String::from_str(alloc, "no memory")?),
+    }
+}
+
+// The fault of a text that is to be a filter, or "none".
+fn fault_of(alloc: Global, text: &str) -> Result<String, Fail> {
+    let value = read_value(alloc, text.as_bytes())?;
+    match Filter::read(alloc, &value) {
+        Ok(_) => Ok(String::from_str(alloc, "none")?),
+        Err(fault) => shown(alloc, &fault),
+    }
+}
+
+fn refuses_row(alloc: Global, row: &str) -> Result<bool, Fail> {
+    match row.split_once(" => ") {
+        Some((text, fault)) => Ok(fault_of(alloc, text)?.as_str() == fault),
+        None => Ok(false),
+    }
+}
+
+// A filter in which an operator has so many operands.
+fn of_operands(alloc: Global, operator: &str, count: usize) -> Result<String, Fail> {
+    let mut text = format!(in alloc; "{{\"x\":{{\"{operator}\":[0")?;
+    for _ in 1..count {
+        text.push_str(",0")?;
+    }
+    text.push_str("]}}")?;
+    Ok(text)
+}
+
+#[test]
+fn first_faults_are_told(rt: HostRuntime) -> Result<(), Fail> {
+    let alloc = rt.alloc();
+    for row in REFUSED.split('\n') {
+        assert!(rt; refuses_row(alloc, row)?, "{row}");
+    }
+    for operator in ["$in", "$nin", "$all"] {
+        let most = of_operands(alloc, operator, 100)?;
+        assert_eq!(rt; fault_of(alloc, most.as_str())?.as_str(), "none");
+        let more = of_operands(alloc, operator, 101)?;
+        assert_eq!(rt; fault_of(alloc, more.as_str())?.as_str(), "many 101");
+    }
+    Ok(())
+}
