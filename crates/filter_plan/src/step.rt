@@ -1,0 +1,46 @@
+use shred_cols::Probe;
+use sqlite_items::Items;
+use thiserror::Error;
+
+/// What columns tell of a filter.
+#[derive(Clone, Copy, Debug, PartialEq, Eq)]
+pub enum Verdict {
+    /// the document matches
+    Yes,
+    /// it doesn't match
+    No,
+    /// the columns don't tell: the document does
+    Look,
+}
+
+/// Why no plan is made.
+#[derive(Error, Clone, Copy, Debug, PartialEq, Eq, Drop)]
+pub enum PlanFault {
+    /// Want of memory.
+    #[error("no memory")]
+    NoMemory,
+}
+
+/// The steps of a list.
+pub(crate) type Steps = Items<Step>;
+
+/// A filter as a tree of probes.
+#[cycle(step)]
+#[derive(Drop)]
+pub(crate) enum Step {
+    /// all steps say yes
+    All(Steps),
+    /// at least one step says yes
+    Any(Steps),
+    /// the step says no
+    Not(Box<Step>),
+    /// some entry meets the probe, which decides, or else asks for a look
+    Met(Probe, bool),
+}
+
+/// A filter made ready to judge columns by.
+#[derive(Drop)]
+pub struct Plan {
+    pub(crate) root: Step,
+    pub(crate) probe: Probe,
+}

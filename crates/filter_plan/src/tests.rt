@@ -1,0 +1,137 @@
+// Filters judged on columns, worked out by hand.
+use crate::{Verdict, plan};
+use filter_tree::Filter;
+use json_text::read_value;
+use json_tree::Doc;
+use shred_cols::shred;
+use std::alloc::Global;
+use std::test::Fail;
+
+// Documents, each with filters and what they say of it.
+const ROWS: [(&str, &str); 5] = [
+    (
+        r#"{"_id":"t","tags":["x",null,{"k":1}]}"#,
+        r#"{"tags":"x"} => yes
+{"tags":null} => yes
+{"tags.2.k":1} => yes
+{"tags":{"$size":3}} => yes
+{"tags":{"$ne":"x"}} => no
+{"tags":{"k":1}} => yes
+{"tags":["x",null,{"k":1}]} => yes
+{"tags":["x",null]} => no"#,
+    ),
+    (
+        r#"{"_id":"1","a":{"0":5}}"#,
+        r#"{"a.0":5} => yes
+{"a":5} => no"#,
+    ),
+    (
+        r#"{"_id":"2","a":[5]}"#,
+        r#"{"a.0":5} => yes
+{"a":5} => yes"#,
+    ),
+    (
+        r#"{"_id":"a"}"#,
+        r#"{} => yes
+{"x":{"$ne":1}} => yes
+{"x":{"$nin":[1]}} => yes
+{"$not":{"x":{"$gt":1}}} => yes
+{"x":{"$exists":false}} => yes
+{"x":null} => no
+{"x":{"$all":[]}} => yes
+{"x":{"$in":[]}} => no
+{"x":{"$size":0}} => no
+{"x":{"$lte":1}} => no
+{"x":{"$gte":"a"}} => no
+{"x":{"$lt":{"$date":0}}} => no"#,
+    ),
+    (
+        r#"{"_id":"order-1001","placed":{"$date":1700000000000},"n":-1.5,"grid":[[1,2],[3]],"empty":{},"word":"Zoë"}"#,
+        r#"{"_id":{"$gt":"order-1000"}} => yes
+{"_id":{"$gt":"order-1001"}} => no
+{"_id":{"$gte":"order-1001"}} => yes
+{"_id":{"$lt":"order-1001"}} => no
+{"_id":{"$lte":"order-1001"}} => yes
+{"_id":{"$lt":"order-2"}} => yes
+{"placed":{"$date":1700000000000}} => yes
+{"placed":1700000000000} => no
+{"placed":{"$gt":{"$date":1700000000000}}} => no
+{"placed":{"$gte":{"$date":1700000000000}}} => yes
+{"placed":{"$lt":{"$date":1700000000001}}} => yes
+{"placed":{"$lt":1800000000000}} => no
+{"n":-1.50} => yes
+{"n":{"$gt":-1.5}} => no
+{"n":{"$gte":-1.5}} => yes
+{"n":{"$lt":-1.5}} => no
+{"n":{"$lte":-1.5}} => yes
+{"n":{"$gt":-2,"$lt":-1}} => yes
+{"n":{"$gt":-2,"$lt":-1.6}} => no
+{"n":{"$in":["-1.5"]}} => no
+{"n":{"$in":[1,-1.5]}} => yes
+{"n":{"$nin":[-1.5]}} => no
+{"grid":1} => no
+{"grid":[3]} => yes
+{"grid":{"$gt":0}} => no
+{"grid.0":{"$all":[2,1]}} => yes
+{"grid.0":{"$all":[2,3]}} => no
+{"empty":{}} => yes
+{"empty":null} => no
+{"word":{"$gt":"Zoe"}} => yes
+{"word":{"$lt":"Zoë"}} => no
+{"word":{"$size":3}} => no
+{"$and":[]} => yes
+{"$or":[]} => no
+{"$not":{}} => no
+{"$or":[{"n":1},{"word":"Zoë"}]} => yes
+{"$and":[{"n":-1.5},{"$not":{"word":"Zoe"}}]} => yes
+{"$and":[{"n":-1.5},{"word":"Zoe"}]} => no"#,
+    ),
+];
+
+fn word(verdict: Verdict) -> &'static str {
+    match verdict {
+        Verdict::Yes => "yes",
+        Verdict::No => "no",
+        Verdict::Look => "look",
+    }
+}
+
+// What the columns of a document tell of a filter, and whether they meet its probe where they tell that it matches.
+fn judged(alloc: Global, document: &str, filter: &str) -> Result<&'static str, Fail> {
+    let value = read_value(alloc, document.as_bytes())?;
+    if !value.is_document() {
+        return Ok("no document");
+    }
+    let doc = Doc::of_value(alloc, value)?;
+    let columns = shred(alloc, &doc)?;
+    let value = read_value(alloc, filter.as_bytes())?;
+    let Ok(filter) = Filter::read(alloc, &value) else {
+        return Ok("refused");
+    };
+    let plan = plan(alloc, &filter)?;
+    let verdict = plan.judge(&columns);
+    if verdict == Verdict::Yes && !columns.meets(plan.probe()) {
+        return Ok("passed over");
+    }
+    if filter.test(&doc) != (verdict == Verdict::Yes) {
+        return Ok("disagrees");
+    }
+    Ok(word(verdict))
+}
+
+fn judges_row(alloc: Global, document: &str, row: &str) -> Result<bool, Fail> {
+    match row.split_once(" => ") {
+        Some((filter, verdict)) => Ok(judged(alloc, document, filter)? == verdict),
+        None => Ok(false),
+    }
+}
+
+#[test]
+fn columns_tell(rt: HostRuntime) -> Result<(), Fail> {
+    for (document, rows) in ROWS {
+        for row in rows.split('\n') {
+            assert!(rt; judges_row(rt.alloc(), document, row)?, "{row}");
+        }
+    }
+    Ok(())
+}
