@@ -8,3 +8,4 @@ pub mod Ascending
 pub mod Keys
 pub mod Stored
 pub mod Ids
+pub mod Seeking

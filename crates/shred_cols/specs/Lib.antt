@@ -7,3 +7,4 @@ pub mod SortKey
 pub mod Bytes
 pub mod Row
 pub mod Rows
+pub mod Search

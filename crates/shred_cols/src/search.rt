@@ -1,0 +1,117 @@
+// The search for entries, by halves and by borrowed parts.
+ghost use Rattle.std.specs.Prelude.{◌≡◌, ◌≢◌, ◌<◌, ◌≤◌, ℕ, true, false, length, IfSome, IfNone, slice_get, slice_index_or};
+ghost use Rattle.std.specs.Option.{option_copied};
+ghost use Rattle.std.specs.List.{Contains, list_any};
+ghost use Rattle.std.specs.List.Sorted.{IsStrictlySortedBy};
+ghost use Rattle.std.specs.Ordering.{is_gt};
+ghost use Rattle.shred_cols.specs.Entry.{path_of, column_of};
+ghost use Rattle.shred_cols.specs.Order.{entry_cmp};
+ghost use Rattle.shred_cols.specs.Probe.{inside};
+ghost use Rattle.shred_cols.specs.Search.{is_before, end_cmp, is_at};
+ghost use Rattle.shred_cols.specs.declared.entry.Entry.{Entry};
+
+use crate::entry::Entry;
+use crate::probe::{Probe, inside};
+use std::cmp::Ordering;
+
+/// Whether an entry stands before a column, a path and a low end.
+fn is_before(column: u8, path: &str, low: Option<i128>, bytes: &[u8], entry: &Entry) -> bool
+    ensures { result ≡ is_before column path.now low bytes.now entry.now }
+{
+    match column.cmp(&entry.column()) {
+        Ordering::Less => return false,
+        Ordering::Equal => {}
+        Ordering::Greater => return true,
+    }
+    match path.cmp(entry.path().text()) {
+        Ordering::Less => return false,
+        Ordering::Equal => {}
+        Ordering::Greater => return true,
+    }
+    is_past(low, bytes, entry)
+}
+
+/// Whether an end is past what an entry says.
+fn is_past(end: Option<i128>, bytes: &[u8], entry: &Entry) -> bool
+    ensures { result ≡ is_gt (end_cmp end bytes.now entry.now) }
+{
+    let Some(number) = end else {
+        return false;
+    };
+    match number.cmp(&entry.number()) {
+        Ordering::Less => false,
+        Ordering::Equal => bytes.cmp(entry.bytes()) == Ordering::Greater,
+        Ordering::Greater => true,
+    }
+}
+
+/// The place of the first entry that isn't before a column, a path and a low end.
+fn seek(entries: &[Entry], column: u8, path: &str, low: Option<i128>, bytes: &[u8]) -> usize
+    requires { IsStrictlySortedBy entry_cmp entries.now }
+    ensures within { result ≤ length entries.now }
+    ensures before { (k : ℕ) (d : Entry) → k < result → is_before column path.now low bytes.now (slice_index_or entries.now k d) ≡ true }
+    ensures after { (k : ℕ) (d : Entry) → result ≤ k → k < length entries.now → is_before column path.now low bytes.now (slice_index_or entries.now k d) ≡ false }
+{
+    entries.partition_point(|e| is_before(column, path, low, bytes, e))
+}
+
+fn entry_in(entries: &[Entry], place: usize) -> Option<&Entry>
+    ensures { option_copied result ≡ slice_get entries.now place }
+{
+    entries.get(place)
+}
+
+/// Whether one of the entries is one that a probe asks for.
+pub(crate) fn any_inside(probe: &Probe, entries: &[Entry]) -> bool
+    requires { IsStrictlySortedBy entry_cmp entries.now }
+    ensures { result ≡ list_any (inside probe.now) entries.now }
+{
+    let place = seek(
+        entries,
+        probe.column(),
+        probe.path_text(),
+        probe.low_number(),
+        probe.low_bytes(),
+    );
+    match entry_in(entries, place) {
+        Some(entry) => inside(probe, entry),
+        None => false,
+    }
+}
+
+/// An entry of a column and a path.
+fn entry_at<'a>(entries: &'a [Entry], column: u8, path: &str) -> Option<&'a Entry>
+    requires { IsStrictlySortedBy entry_cmp entries.now }
+    ensures found { IfSome result (λ e. Contains entries.now e.now × (path_of e.now ≡ path.now) × (column_of e.now ≡ column)) }
+    ensures none { IfNone result ((e : Entry) → Contains entries.now e → path_of e ≡ path.now → column_of e ≢ column) }
+{
+    let place = seek(entries, column, path, None, &[]);
+    let Some(entry) = entry_in(entries, place) else {
+        return None;
+    };
+    if is_at(entry, column, path) {
+        return Some(entry);
+    }
+    None
+}
+
+/// Whether an entry is of a column and a path.
+fn is_at(entry: &Entry, column: u8, path: &str) -> bool
+    ensures { result ≡ is_at entry.now column path.now }
+{
+    entry.column() == column && entry.path().text() == path
+}
+
+/// The entry that tells the sort key of a path.
+pub(crate) fn find_key<'a>(entries: &'a [Entry], path: &str) -> Option<&'a Entry>
+    requires { IsStrictlySortedBy entry_cmp entries.now }
+    ensures found { IfSome result (λ e. Contains entries.now e.now × (path_of e.now ≡ path.now) × (4 ≤ column_of e.now)) }
+    ensures none { IfNone result ((e : Entry) → Contains entries.now e → path_of e ≡ path.now → column_of e < 4) }
+{
+    for column in 4..9 {
+        if let Some(entry) = entry_at(entries, column, path) {
+            return Some(entry);
+        }
+    }
+    None
+}
