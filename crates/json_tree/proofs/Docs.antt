@@ -1,19 +1,19 @@
 -- The id of a document.
-use Rattle.std.proofs.Common.{◌≡◌, ℕ, List, Option, Some, None, Result, Ok, Err, IfOk, IfErr, unwrap_or, is_some, codes, refl, sym, ap, ◌∙◌, ◌+◌, ◌<◌, Bool, true, false, ◌||◌, not, IsTrue, ◌↔◌, map, drop, length, get_or}
+use Rattle.std.proofs.Common.{◌≡◌, ℕ, List, Option, Some, None, Result, Ok, Err, IfOk, IfErr, unwrap_or, option_and_then, option_map, IsSome, is_some, codes, subst, refl, sym, ap, ◌∙◌, ◌+◌, ◌<◌, Bool, true, false, ◌||◌, not, IsTrue, ◌↔◌, map, drop, length, get_or}
 use Rattle.json_tree.specs.Tree.{Tree, elements_of, members_of}
 use Rattle.json_tree.specs.View.{tree, pair_of}
 use Rattle.json_tree.specs.Members.{member_at}
 use Rattle.json_tree.specs.Id.{IsId, id_fault}
-use Rattle.json_tree.specs.Doc.{IsDocument, id_in, is_dollar, has_dollar_name, elements_dollar_name, members_dollar_name}
+use Rattle.json_tree.specs.Doc.{IsDocument, id_in, id_fault_in, is_dollar, has_dollar_name, elements_dollar_name, members_dollar_name}
 use Rattle.json_tree.specs.declared.fault.TreeFault.{TreeFault}
 use Rattle.json_tree.specs.declared.fault.TreeFault.TheVariants.{NoMemory}
 use Rattle.json_tree.specs.declared.value.Value.{Value}
 use Rattle.json_tree.specs.declared.value.Value.TheVariants as v
-use Rattle.json_tree.proofs.Trees.{list-pairs}
+use Rattle.json_tree.specs.RoundTrips.{list_of_members-members_of}
 use Rattle.json_tree.proofs.Lists.{front_of}
 
 pub id_there : (x : Value) (ps : List (List ℕ × Tree)) (o : Option Tree) → x ≡ v.Object ps → o ≡ member_at (codes "_id") ps → id_in (tree x) ≡ o
-id_there x ps o e f = ap (λ y. id_in (tree y)) e ∙ ap (member_at (codes "_id")) (list-pairs ps) ∙ sym f
+id_there x ps o e f = ap (λ y. id_in (tree y)) e ∙ ap (member_at (codes "_id")) (list_of_members-members_of ps) ∙ sym f
 
 pub has_no_id : (t : Tree) → IsDocument t → id_in t ≡ None → ⊥
 has_no_id t d e = rw e at d.id
@@ -21,13 +21,30 @@ has_no_id t d e = rw e at d.id
 pub is_id : (t i : Tree) → IsDocument t → id_in t ≡ Some i → IsId i
 is_id t i d e = rw e at d.id
 
-pub id_given : (t i : Tree) (r : Result Tree TreeFault) → id_in t ≡ Some i → IfOk r (λ d. (d ≡ i) × IsId i) → IfOk r (λ d. id_in t ≡ Some d)
-id_given t i (Ok d) e h = e ∙ ap Some (sym h.0)
+pub no_id_there : (o : Option Tree) → IsSome o → o ≡ None → ⊥
+no_id_there None s e = absurd (Prim.cc s)
+no_id_there (Some i) s e = absurd (Prim.cc e)
+
+mapped_some : {X Y : Type 0} (f : X → Y) (o : Option X) → is_some o ≡ is_some (option_map f o)
+mapped_some f None = refl
+mapped_some f (Some x) = refl
+
+pub has_id : {X : Type 0} (f : X → Tree) (x : Value) (ps : List (List ℕ × Tree)) (o : Option X) → x ≡ v.Object ps → option_map f o ≡ member_at (codes "_id") ps → is_some o ≡ is_some (id_in (tree x))
+has_id f x ps o e g = mapped_some f o ∙ ap is_some g ∙ sym (ap is_some (id_there x ps (member_at (codes "_id") ps) e refl))
+
+pub id_given : (t i : Tree) (r : Result Tree TreeFault) → id_in t ≡ Some i → IfOk r (λ d. (d ≡ i) × IsId i) → IfOk r (λ d. (id_in t ≡ Some d) × IsId d)
+id_given t i (Ok d) e h = (e ∙ ap Some (sym h.0), subst IsId (sym h.0) h.1)
 id_given t i (Err f) e h = tt
 
-pub id_refused : (i : Tree) (r : Result Tree TreeFault) → IsId i → IfErr r (λ e. e ≡ unwrap_or (id_fault i) NoMemory) → IfErr r (λ e. e ≡ NoMemory)
-id_refused i (Ok d) e h = tt
-id_refused i (Err f) e h = h ∙ ap (λ o. unwrap_or o NoMemory) e
+pub id_refused : (t i : Tree) (r : Result Tree TreeFault) → id_in t ≡ Some i → IfErr r (λ e. e ≡ unwrap_or (id_fault i) NoMemory) → IfErr r (λ e. e ≡ unwrap_or (id_fault_in t) NoMemory)
+id_refused t i (Ok d) e h = tt
+id_refused t i (Err f) e h = h ∙ ap (λ o. unwrap_or (option_and_then id_fault o) NoMemory) (sym e)
+
+pub no_fault_in : (t d : Tree) → id_in t ≡ Some d → IsId d → unwrap_or (id_fault_in t) NoMemory ≡ NoMemory
+no_fault_in t d e h = ap (λ o. unwrap_or (option_and_then id_fault o) NoMemory) e ∙ ap (λ o. unwrap_or o NoMemory) h
+
+pub document : (t d : Tree) → id_in t ≡ Some d → IsId d → has_dollar_name t ≡ false → IsDocument t
+document t d e h names = record { id = rw e h; names = names }
 
 -- ---- names
 

@@ -14,7 +14,7 @@ use Rattle.std.specs.Int.RustNames.{FitsSigned}
 use Rattle.json_tree.specs.Num.{IsNumber}
 use Rattle.json_tree.specs.Tree.{Tree, null, boolean, number, text, date, list, object}
 use Rattle.json_tree.specs.Id.{IsId, IsInRange, id_tag, id_text, id_number, id_cmp, top_inverted, number_bytes, date_bytes, key_of}
-use Rattle.json_tree.proofs.Bytes.{step, bytes_read, bytes_written, bytes_order, length-bytes_high_first, nat_less, nat_equal, nat_greater}
+use Rattle.json_tree.specs.Bytes.{step, bytes_read, bytes_written, bytes_order, length-bytes_high_first, nat_less, nat_equal, nat_greater}
 
 -- ---- the bits
 

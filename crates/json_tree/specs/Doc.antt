@@ -1,8 +1,9 @@
 -- Documents: objects with an id, in which no member name begins with '$'.
-use Rattle.std.specs.Prelude.{◌≡◌, ℕ, Bool, false, ◌||◌, ◌==◌, List, [], ◌∷◌, Option, None, MatchOption, codes}
+use Rattle.std.specs.Prelude.{◌≡◌, ℕ, Bool, false, ◌||◌, ◌==◌, List, [], ◌∷◌, Option, None, MatchOption, option_and_then, codes}
 use Rattle.json_tree.specs.Tree.{Tree, null, boolean, number, text, date, list, object, Elements, no_elements, element, Members, no_members, member, list_of_members}
 use Rattle.json_tree.specs.Members.{member_at}
-use Rattle.json_tree.specs.Id.{IsId}
+use Rattle.json_tree.specs.Id.{IsId, id_fault}
+use Rattle.json_tree.specs.declared.fault.TreeFault.{TreeFault}
 
 -- a name that begins with '$'
 abbrev pub is_dollar : List ℕ → Bool
@@ -37,6 +38,10 @@ id_in (number n) = None
 id_in (text t) = None
 id_in (date d) = None
 id_in (list ts) = None
+
+-- why the member `_id` is no id
+abbrev pub id_fault_in : Tree → Option TreeFault
+id_fault_in t = option_and_then id_fault (id_in t)
 
 pub record IsDocument (t : Tree) : Type 0 where
   pub id : MatchOption (id_in t) ⊥ IsId

@@ -8,3 +8,8 @@ pub mod Id
 pub mod Doc
 pub mod Dates
 pub mod Writable
+pub mod Writables
+pub mod RoundTrips
+pub mod Sizes
+pub mod Bytes
+pub mod Same

@@ -1,9 +1,10 @@
--- The values that texts can spell.
-use Rattle.std.specs.Prelude.{◌≡◌, ℕ, suc, ◌<◌, ◌^◌, ℤ, pos, negsuc, List, [], ◌∷◌, ◌++◌, max, false, ⊤, None}
+-- What every value of the program is by its types, and which values are written as they are read.
+use Rattle.std.specs.Prelude.{◌≡◌, ℕ, suc, ◌<◌, ◌^◌, ℤ, pos, negsuc, List, [], ◌∷◌, ◌++◌, max, false, ⊤, None, IsTrue}
 use Rattle.std.specs.List.{list_any}
 use Rattle.std.specs.Str.{bytes_eq, IsUtf8}
 use Rattle.json_tree.specs.Num.{IsNumber}
 use Rattle.json_tree.specs.Tree.{Tree, null, boolean, number, text, date, list, object, Elements, no_elements, element, Members, no_members, member, list_of_members}
+use Rattle.json_tree.specs.Members.{all_distinct}
 use Rattle.json_tree.specs.Dates.{date_of}
 
 -- a date counts as one level
@@ -26,7 +27,41 @@ abbrev pub IsI64 : ℤ → Type 0
 IsI64 (pos n) = n < 2 ^ 63
 IsI64 (negsuc n) = n < 2 ^ 63
 
--- Texts are UTF-8, numbers and dates in range, the names of an object differ, and no object is one that stands for a date.
+-- Texts and names are UTF-8, numbers and dates in range, and the names of an object differ.
+abbrev mutual
+  pub IsValue : Tree → Type 0
+  IsValue null = ⊤
+  IsValue (boolean b) = ⊤
+  IsValue (number n) = IsNumber n
+  IsValue (text s) = IsUtf8 s
+  IsValue (date n) = IsI64 n
+  IsValue (list vs) = AreValues vs
+  IsValue (object ms) = IsTrue (all_distinct (list_of_members ms)) × MembersAreValues ms
+
+  pub AreValues : Elements → Type 0
+  AreValues no_elements = ⊤
+  AreValues (element v vs) = IsValue v × AreValues vs
+
+  pub MembersAreValues : Members → Type 0
+  MembersAreValues no_members = ⊤
+  MembersAreValues (member n v ms) = IsUtf8 n × IsValue v × MembersAreValues ms
+
+-- no object inside is one that stands for a date
+abbrev mutual
+  pub HoldsNoDateObject : Tree → Type 0
+  HoldsNoDateObject (list vs) = HoldNoDateObject vs
+  HoldsNoDateObject (object ms) = (date_of (list_of_members ms) ≡ None) × MembersHoldNoDateObject ms
+  HoldsNoDateObject v = ⊤
+
+  pub HoldNoDateObject : Elements → Type 0
+  HoldNoDateObject no_elements = ⊤
+  HoldNoDateObject (element v vs) = HoldsNoDateObject v × HoldNoDateObject vs
+
+  pub MembersHoldNoDateObject : Members → Type 0
+  MembersHoldNoDateObject no_members = ⊤
+  MembersHoldNoDateObject (member n v ms) = HoldsNoDateObject v × MembersHoldNoDateObject ms
+
+-- A value that holds no object that stands for a date, in the order of its members.
 abbrev mutual
   pub IsWritable : Tree → Type 0
   IsWritable null = ⊤

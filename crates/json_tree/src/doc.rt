@@ -1,6 +1,9 @@
-ghost use Rattle.std.specs.Prelude.{◌≡◌, ◌↔◌, Some, IfOk, IfErr, IsTrue};
+// Documents: a value with an id, shared by its copies.
+ghost use Rattle.std.specs.Prelude.{◌≡◌, Some, IsSome, IfOk, IfErr, unwrap_or, false};
 ghost use Rattle.json_tree.specs.View.{tree};
-ghost use Rattle.json_tree.specs.Doc.{IsDocument, id_in, has_dollar_name};
+ghost use Rattle.json_tree.specs.Id.{IsId};
+ghost use Rattle.json_tree.specs.Doc.{IsDocument, id_in, id_fault_in, has_dollar_name};
+ghost use Rattle.json_tree.specs.Writable.{IsWritable};
 ghost use Rattle.json_tree.specs.declared.fault.TreeFault.TheVariants.{NoMemory};
 
 use crate::fault::TreeFault;
@@ -39,11 +42,14 @@ impl Model for Doc {
 }
 
 impl Doc {
-    /// The document that a value is. `Value::is_document` tests the condition.
+    /// The document that an object with a member `_id` is, if that is an id and memory is there.
+    /// `Value::has_id_member` and `Value::has_dollar_name` test the condition.
     pub fn of_value(alloc: Global, value: Value) -> Result<Doc, TreeFault>
-        requires { IsDocument (tree value) }
+        requires id { IsSome (id_in (tree value)) }
+        requires names { has_dollar_name (tree value) ≡ false }
         ensures ok { IfOk result (λ d. d ≡ tree value) }
-        ensures err { IfErr result (λ e. e ≡ NoMemory) }
+        ensures document { IfOk result (λ d. IsDocument d) }
+        ensures err { IfErr result (λ e. e ≡ unwrap_or (id_fault_in (tree value)) NoMemory) }
     {
         let id = id_of(alloc, &value)?;
         let shared = Arc::new(alloc, Contents { id, value })?;
@@ -61,7 +67,9 @@ impl Doc {
     pub fn value(&self) -> &Value
         ensures value { tree result.now ≡ self.now }
         ensures document { IsDocument self.now }
+        ensures writable { IsWritable self.now }
     {
+        self.shared.value.by_type();
         &self.shared.value
     }
 
@@ -77,9 +85,9 @@ impl Doc {
 
 /// The id of the member `_id`.
 fn id_of(alloc: Global, value: &Value) -> Result<DocId, TreeFault>
-    requires { IsDocument (tree value.now) }
-    ensures ok { IfOk result (λ d. id_in (tree value.now) ≡ Some d) }
-    ensures err { IfErr result (λ e. e ≡ NoMemory) }
+    requires { IsSome (id_in (tree value.now)) }
+    ensures ok { IfOk result (λ d. (id_in (tree value.now) ≡ Some d) × IsId d) }
+    ensures err { IfErr result (λ e. e ≡ unwrap_or (id_fault_in (tree value.now)) NoMemory) }
 {
     match value {
         Value::Object(members) => match members.get("_id") {

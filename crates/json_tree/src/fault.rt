@@ -1,3 +1,4 @@
+// Why a call refuses.
 ghost use Rattle.json_tree.specs.declared.fault.TreeFault.TheVariants.{NoMemory};
 ghost use Rattle.std.specs.Prelude.{◌≡◌};
 

@@ -1,3 +1,4 @@
+// Ids: made of values, compared.
 ghost use Rattle.std.specs.Prelude.{◌≡◌, ◌↔◌, IfOk, IfErr, IsTrue, unwrap_or, None};
 ghost use Rattle.json_tree.specs.Tree.{number, text};
 ghost use Rattle.json_tree.specs.View.{tree};

@@ -19,7 +19,9 @@ pub use decimal::scale;
 pub use doc::Doc;
 pub use fault::TreeFault;
 pub use id::DocId;
-pub use laws::{ids_are_ordered, key_bytes_are_ordered, products_are_exact};
+pub use laws::{
+    ids_are_ordered, key_bytes_are_ordered, products_are_exact, same_decides, values_are_writable,
+};
 pub use num::Num;
 pub use text::Text;
 pub use value::{Items, Members, Value};

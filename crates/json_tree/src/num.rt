@@ -1,3 +1,4 @@
+// Decimal numbers: exact sums and products, and their order.
 ghost use Rattle.std.specs.Prelude.{◌≡◌, ◌<◌, ◌^◌, ok_or, if◌then◌else◌, pos, neg_ℤ};
 ghost use Rattle.std.specs.Ordering.{int_cmp};
 ghost use Rattle.json_tree.specs.Num.{IsNumber, parts_value, sum_of, product_of};

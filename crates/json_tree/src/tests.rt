@@ -306,12 +306,30 @@ fn documents_are_told(rt: HostRuntime) -> Result<(), Fail> {
     Ok(())
 }
 
+fn document(alloc: Global, value: Value) -> Result<Doc, TreeFault> {
+    if value.has_id_member() && !value.has_dollar_name() {
+        Doc::of_value(alloc, value)
+    } else {
+        Err(TreeFault::NumberRange)
+    }
+}
+
+#[test]
+fn ids_of_documents_are_tested(rt: HostRuntime) -> Result<(), Fail> {
+    let empty = Value::Text(Text::of_str(rt.alloc(), "")?);
+    let none = object(rt.alloc(), &["_id"], &empty)?;
+    assert!(rt; matches!(document(rt.alloc(), none), Err(TreeFault::EmptyId)));
+    let list = Value::List(Items::new(rt.alloc()));
+    let wrong = object(rt.alloc(), &["_id"], &list)?;
+    assert!(rt; matches!(document(rt.alloc(), wrong), Err(TreeFault::BadIdKind)));
+    Ok(())
+}
+
 #[test]
 fn documents_are_shared(rt: HostRuntime) -> Result<(), Fail> {
     let plain = object(rt.alloc(), &["x", "_id"], &Value::Date(5))?;
     let copy = plain.try_copy(rt.alloc())?;
-    assert!(rt; plain.is_document());
-    let doc = Doc::of_value(rt.alloc(), plain)?;
+    let doc = document(rt.alloc(), plain)?;
     let shared = doc.try_copy(rt.alloc())?;
     assert!(rt; shared.value().same(&copy));
     assert!(rt; shared.id().value().same(&Value::Date(5)));

@@ -1,10 +1,13 @@
-ghost use Rattle.std.specs.Prelude.{◌≡◌, [], ◌∷◌, ◌++◌, ◌<◌, ◌≤◌, length, slice_get, slice_set, slice_index_or, insert, remove, option_map, IfOk, IfErr, OnOk, OnErr, IsTrue, ◌↔◌, ◌||◌};
+// Values, lists and objects: making, reading, changing, copying and comparing them.
+ghost use Rattle.std.specs.Prelude.{◌≡◌, [], ◌∷◌, ◌++◌, ◌<◌, ◌≤◌, length, map, slice_get, slice_set, slice_index_or, insert, remove, option_map, is_some, IfOk, IfErr, OnOk, OnErr, IsTrue, ◌↔◌, ◌||◌};
 ghost use Rattle.json_tree.specs.View.{tree, pair_of};
 ghost use Rattle.json_tree.specs.Tree.{elements_of, members_of};
 ghost use Rattle.json_tree.specs.Id.{id_fault};
-ghost use Rattle.json_tree.specs.Doc.{IsDocument, is_dollar, has_dollar_name, elements_dollar_name, members_dollar_name};
+ghost use Rattle.json_tree.specs.Doc.{IsDocument, id_in, is_dollar, has_dollar_name, elements_dollar_name, members_dollar_name};
 ghost use Rattle.json_tree.specs.declared.fault.TreeFault.TheVariants.{NoMemory};
 ghost use Rattle.json_tree.specs.Members.{place_of, member_at, put_member, without_member, revalue, all_distinct};
+ghost use Rattle.json_tree.specs.Writable.{IsI64, IsValue, AreValues, MembersAreValues};
+ghost use Rattle.json_tree.specs.Same.{same};
 
 use crate::fault::TreeFault;
 use crate::num::Num;
@@ -54,6 +57,11 @@ impl Model for Items {
 
     ghost view = { λ a. map tree a.items.items };
 
+    ghost use Rattle.json_tree.specs.Tree.{elements_of};
+    ghost use Rattle.json_tree.specs.Writable.{AreValues};
+
+    ghost invariant = { λ a. AreValues (elements_of (map tree a.items.items)) };
+
     ghost size = { trees_size };
 
     ghost use Rattle.json_tree.specs.Falls.{items_fall};
@@ -77,9 +85,11 @@ impl Model for Members {
     ghost view = { λ a. map pair_of a.pairs.items };
 
     ghost use Rattle.std.specs.Prelude.{IsTrue};
+    ghost use Rattle.json_tree.specs.Tree.{members_of};
     ghost use Rattle.json_tree.specs.Members.{all_distinct};
+    ghost use Rattle.json_tree.specs.Writable.{MembersAreValues};
 
-    ghost invariant = { λ a. IsTrue (all_distinct (map pair_of a.pairs.items)) };
+    ghost invariant = { λ a. IsTrue (all_distinct (map pair_of a.pairs.items)) × MembersAreValues (members_of (map pair_of a.pairs.items)) };
 
     ghost size = { pairs_size };
 
@@ -106,6 +116,20 @@ impl Items {
         self.items.len()
     }
 
+    /// What the elements are by their types. Nothing is done.
+    pub fn by_type(&self)
+        ensures { AreValues (elements_of self.now) }
+    {
+        let _ = &self.items;
+    }
+
+    /// The elements, in their order.
+    pub fn as_slice(&self) -> &[Value]
+        ensures { map tree result.now ≡ self.now }
+    {
+        self.items.as_slice()
+    }
+
     /// The element at a place.
     pub fn get(&self, place: usize) -> Option<&Value>
         ensures { option_map (λ v. tree v.now) result ≡ slice_get self.now place }
@@ -119,6 +143,7 @@ impl Items {
         ensures refused { IfErr result (λ e. e ≡ NoMemory) }
         ensures err { OnErr result (self.new ≡ self.old) }
     {
+        value.by_type();
         self.items.push(value)?;
         Ok(())
     }
@@ -131,6 +156,7 @@ impl Items {
         ensures refused { IfErr result (λ e. e ≡ NoMemory) }
         ensures err { OnErr result (self.new ≡ self.old) }
     {
+        value.by_type();
         self.items.insert(place, value)?;
         Ok(())
     }
@@ -142,6 +168,7 @@ impl Items {
         ensures old { slice_get self.old place ≡ Some (tree result) }
         ensures new { self.new ≡ slice_set self.old place (tree value) }
     {
+        value.by_type();
         mem::replace(&mut self.items[place], value)
     }
 
@@ -174,8 +201,23 @@ impl Members {
         self.pairs.len()
     }
 
+    /// What the members are by their types. Nothing is done.
+    pub fn by_type(&self)
+        ensures distinct { IsTrue (all_distinct self.now) }
+        ensures values { MembersAreValues (members_of self.now) }
+    {
+        let _ = &self.pairs;
+    }
+
+    /// The pairs of name and value, in their order.
+    pub fn as_slice(&self) -> &[(Text, Value)]
+        ensures { map pair_of result.now ≡ self.now }
+    {
+        self.pairs.as_slice()
+    }
+
     /// The place of a name, or the length.
-    pub(crate) fn place(&self, name: &str) -> usize
+    pub fn place(&self, name: &str) -> usize
         ensures value { result ≡ place_of name.now self.now }
         ensures within { result ≤ length self.now }
     {
@@ -211,6 +253,7 @@ impl Members {
         ensures old { option_map (λ p. p.1) (slice_get self.old place) ≡ Some (tree result) }
         ensures new { self.new ≡ revalue self.old place (tree value) }
     {
+        value.by_type();
         mem::replace(&mut self.pairs[place].1, value)
     }
 
@@ -236,6 +279,8 @@ impl Members {
         ensures refused { IfErr result (λ e. e ≡ NoMemory) }
         ensures err { OnErr result (self.new ≡ self.old) }
     {
+        value.by_type();
+        name.as_str();
         self.pairs.push((name, value))?;
         Ok(())
     }
@@ -265,7 +310,30 @@ impl Members {
     }
 }
 
+#[tactic(auto, using(crate::proofs::Values::fits_i64))]
+fn in_64_bits(_date: i64)
+    ensures { IsI64 _date }
+{}
+
 impl Value {
+    /// What every value is by its types. Nothing is done.
+    pub fn by_type(&self)
+        ensures { IsValue (tree self.now) }
+    {
+        match self {
+            Value::Num(n) => {
+                n.units();
+            }
+            Value::Text(t) => {
+                t.as_str();
+            }
+            Value::List(items) => items.by_type(),
+            Value::Object(members) => members.by_type(),
+            Value::Date(d) => in_64_bits(*d),
+            _ => {}
+        }
+    }
+
     /// The same value, in memory of its own.
     #[cycle(copy)]
     pub fn try_copy(&self, alloc: Global) -> Result<Value, TreeFault>
@@ -284,9 +352,16 @@ impl Value {
     }
 
     /// Whether kinds and parts agree, members in the same order.
-    #[cycle(same)]
-    #[tactic(auto, using(crate::proofs::Trees::trees))]
     pub fn same(&self, other: &Value) -> bool
+        ensures equal { IsTrue result ↔ (tree self.now ≡ tree other.now) }
+        ensures test { result ≡ same (tree self.now) (tree other.now) }
+    {
+        self.agrees(other)
+    }
+
+    #[cycle(same)]
+    #[tactic(auto, using(crate::specs::RoundTrips::trees))]
+    fn agrees(&self, other: &Value) -> bool
         ensures { IsTrue result ↔ (tree self.now ≡ tree other.now) }
     {
         match (self, other) {
@@ -313,7 +388,7 @@ impl Items {
             return false;
         }
         for i in 0..self.items.len() {
-            if !self.items[i].same(&other.items[i]) {
+            if !self.items[i].agrees(&other.items[i]) {
                 return false;
             }
         }
@@ -344,7 +419,7 @@ impl Members {
 fn same_pair(a: &(Text, Value), b: &(Text, Value)) -> bool
     ensures { IsTrue result ↔ (pair_of a.now ≡ pair_of b.now) }
 {
-    a.0.same(&b.0) && a.1.same(&b.1)
+    a.0.same(&b.0) && a.1.agrees(&b.1)
 }
 
 impl Items {
@@ -402,6 +477,16 @@ impl Value {
             Value::List(_) => Some(TreeFault::BadIdKind),
             Value::Object(_) => Some(TreeFault::BadIdKind),
             _ => None,
+        }
+    }
+
+    /// Whether the value is an object with a member `_id`.
+    pub fn has_id_member(&self) -> bool
+        ensures { result ≡ is_some (id_in (tree self.now)) }
+    {
+        match self {
+            Value::Object(members) => members.get("_id").is_some(),
+            _ => false,
         }
     }
 

@@ -1,5 +1,5 @@
 use Rattle.std.proofs.Common.{length, refl, sym, ap, ◌∙◌, arith, fold, ◌∷◌}
-use Rattle.json_tree.proofs.Bytes.{step}
+use Rattle.json_tree.specs.Bytes.{step}
 use Rattle.json_tree.proofs.Ids.{no_number, length-number_bytes, number_bytes-read, number_bytes-written}
 use Rattle.json_tree.proofs.key.number_id.Goals as goal
 

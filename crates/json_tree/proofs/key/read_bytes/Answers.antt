@@ -1,5 +1,5 @@
 use Rattle.std.proofs.Common.{arith, ◌<◌}
-use Rattle.json_tree.proofs.Bytes.{byte_fits}
+use Rattle.json_tree.specs.Bytes.{byte_fits}
 use Rattle.json_tree.proofs.key.read_bytes.Goals as goal
 
 pub overflow_mul-n : goal.overflow_mul-n

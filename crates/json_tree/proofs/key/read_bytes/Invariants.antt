@@ -1,5 +1,5 @@
 use Rattle.std.proofs.Common.{◌≡◌, ◌<◌, ◌^◌, take, fold}
-use Rattle.json_tree.proofs.Bytes.{step}
+use Rattle.json_tree.specs.Bytes.{step}
 use Rattle.json_tree.proofs.key.read_bytes.Given as goal
 
 abbrev pub invariant-bytes : goal.invariant-bytes

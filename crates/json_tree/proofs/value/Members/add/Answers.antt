@@ -1,15 +1,18 @@
-use Rattle.std.proofs.Common.{◌∙◌, ◌++◌, ◌∷◌, [], map, length, ap, arith}
+use Rattle.std.proofs.Common.{◌∙◌, ◌++◌, ◌∷◌, [], map, length, ap, sym, subst, arith, IsUtf8}
 use Rattle.std.proofs.lemmas.List.{map-append}
 use Rattle.json_tree.specs.Members.{all_distinct, place_of}
 use Rattle.json_tree.specs.View.{tree, pair_of}
 use Rattle.json_tree.proofs.Names.{distinct_last}
+use Rattle.json_tree.proofs.Values.{AllNamed, members_last}
 use Rattle.json_tree.proofs.value.Members.add.Goals as goal
 
 pub invariant_of-self-2 : goal.invariant_of-self-2
 invariant_of-self-2 c =
-    let is = ap (map pair_of) c.in_ok-push.ensures.items ∙ map-append pair_of c.self.inside.pairs.items _ in
-    ap all_distinct is ∙ distinct_last c.args.name (tree c.args.value) (map pair_of c.self.inside.pairs.items)
-    (omega (arith, c.requires, ap length c.self.view_is, ap (place_of c.args.name) c.self.view_is)) c.self.invariant
+    let ps = map pair_of c.self.inside.pairs.items in
+    let is = ap (map pair_of) c.in_ok-push.ensures.items ∙ map-append pair_of c.self.inside.pairs.items _ in (
+      ap all_distinct is ∙ distinct_last c.args.name (tree c.args.value) ps (omega (arith, c.requires, ap length c.self.view_is, ap (place_of c.args.name) c.self.view_is)) c.self.invariant.0,
+      subst AllNamed (sym is) (members_last ps c.args.name (tree c.args.value) c.self.invariant.1 (subst IsUtf8 c.as_str.ensures c.as_str.utf8) c.by_type.ensures),
+    )
 
 pub returns-clause-ok : goal.returns-clause-ok
 returns-clause-ok c =

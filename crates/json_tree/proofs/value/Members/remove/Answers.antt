@@ -1,4 +1,4 @@
-use Rattle.std.proofs.Common.{◌∙◌, map, length, sym, ap, refl, arith, option_map, slice_get, ◌<◌}
+use Rattle.std.proofs.Common.{◌∙◌, map, length, sym, ap, subst, refl, arith, option_map, slice_get, ◌<◌}
 use Rattle.std.specs.List.{remove}
 use Rattle.std.proofs.lemmas.List.{length-map}
 use Rattle.std.proofs.lemmas.Option.{slice_get-map, slice_get_read, slice_get_past}
@@ -6,12 +6,14 @@ use Rattle.json_tree.specs.Members.{all_distinct}
 use Rattle.json_tree.specs.View.{pair_of}
 use Rattle.json_tree.proofs.Lists.{map-remove}
 use Rattle.json_tree.proofs.Names.{member_is, without_is, without_absent, distinct_remove}
+use Rattle.json_tree.proofs.Values.{AllNamed, members_remove}
 use Rattle.json_tree.proofs.value.Members.remove.Goals as goal
 
 pub invariant_of-self : goal.invariant_of-self
 invariant_of-self c =
-    ap (λ l. all_distinct (map pair_of l)) c.remove-value.ensures.items ∙ ap all_distinct (map-remove pair_of c.self.inside.pairs.items c.place-place.result)
-    ∙ distinct_remove (map pair_of c.self.inside.pairs.items) c.place-place.result c.self.invariant
+    let ps = map pair_of c.self.inside.pairs.items in
+    let is = ap (map pair_of) c.remove-value.ensures.items ∙ map-remove pair_of c.self.inside.pairs.items c.place-place.result in
+    (ap all_distinct is ∙ distinct_remove ps c.place-place.result c.self.invariant.0, subst AllNamed (sym is) (members_remove ps c.place-place.result c.self.invariant.1))
 
 pub returns-then-place-len-clause-new : goal.returns-then-place-len-clause-new
 returns-then-place-len-clause-new c =
