@@ -1,7 +1,20 @@
-use Rattle.std.proofs.Common.{sym, ap, ◌∙◌, Some}
+use Rattle.std.proofs.Common.{sym, ap, ◌∙◌, Some, Option, None, MatchOption, IsSome, refl}
+use Rattle.json_tree.specs.Tree.{Tree}
+use Rattle.json_tree.specs.Id.{IsId}
+use Rattle.json_tree.specs.View.{tree}
 use Rattle.json_tree.specs.Doc.{id_in}
 use Rattle.store_core.specs.Insert.{with_document}
 use Rattle.dapi.proofs.answer.insert_fit.Goals as goal
+
+has_id : (o : Option Tree) → MatchOption o ⊥ IsId → IsSome o
+has_id None h = absurd h
+has_id (Some i) h = refl
+
+pub of_value-requires-clause-id : goal.of_value-requires-clause-id
+of_value-requires-clause-id c = has_id (id_in (tree c.args.document)) c.requires.document.id
+
+pub of_value-requires-clause-names : goal.of_value-requires-clause-names
+of_value-requires-clause-names c = c.requires.document.names
 
 pub returns-in-Written : goal.returns-in-Written
 returns-in-Written c =
