@@ -29,3 +29,4 @@ pub mod Apart
 pub mod FitTokens
 pub mod Spelled
 pub mod Decided
+pub mod Kept

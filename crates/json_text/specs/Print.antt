@@ -1,5 +1,5 @@
 -- The canonical text of a value.
-use Rattle.std.specs.Prelude.{ℕ, zero, suc, ◌+◌, ◌-◌, ◌/◌, ◌%◌, ◌^◌, min, ℤ, pos, negsuc, List, [], ◌∷◌, ◌++◌, Bool, true, false, if◌then◌else◌, ◌==◌, nat_lt, decimal}
+use Rattle.std.specs.Prelude.{ℕ, zero, suc, ◌+◌, ◌-◌, ◌/◌, ◌%◌, ◌^◌, min, ℤ, pos, negsuc, List, [], ◌∷◌, ◌++◌, length, take, ◌≡◌, Bool, true, false, if◌then◌else◌, ◌==◌, nat_lt, decimal}
 use Rattle.std.specs.List.{flat_map}
 use Rattle.std.specs.Char.{digit_char}
 use Rattle.std.specs.Fmt.{signed_decimal}
@@ -98,3 +98,7 @@ rest_of_members false ms = more_members ms
 -- a count that stops at the end of 64 bits
 abbrev pub capped : ℕ → ℕ
 capped n = min n (2 ^ 64 - 1)
+
+-- the old bytes stand in front of the new ones
+abbrev pub Extends : List ℕ → List ℕ → Type 0
+Extends old new = take (length old) new ≡ old

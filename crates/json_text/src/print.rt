@@ -1,5 +1,5 @@
 // Printing.
-ghost use Rattle.std.specs.Prelude.{◌≡◌, ◌==◌, ◌<◌, ◌≤◌, ◌^◌, ℕ, List, ◌∷◌, ◌++◌, [], OnOk, IfOk, IfErr};
+ghost use Rattle.std.specs.Prelude.{◌≡◌, ◌==◌, ◌<◌, ◌≤◌, ◌^◌, ℕ, List, ◌∷◌, ◌++◌, [], OnOk, OnErr, IfOk, IfErr};
 ghost use Rattle.std.specs.List.{flat_map};
 ghost use Rattle.std.specs.Char.{digit_char};
 ghost use Rattle.std.specs.Fmt.{signed_decimal};
@@ -8,7 +8,7 @@ ghost use Rattle.json_tree.specs.View.{tree};
 ghost use Rattle.json_text.specs.Grammar.{Reads};
 ghost use Rattle.json_tree.specs.Writable.{IsWritable, tree_levels};
 ghost use Rattle.json_text.specs.declared.read.TextFault.TheVariants.{NoMemory};
-ghost use Rattle.json_text.specs.Print.{escaped, string_text, padded, trimmed, with_point, magnitude_text, number_text, boolean_text, date_text, separator, text_of};
+ghost use Rattle.json_text.specs.Print.{escaped, string_text, padded, trimmed, with_point, magnitude_text, number_text, boolean_text, date_text, separator, text_of, Extends};
 
 use crate::read::TextFault;
 use crate::string::plain_len;
@@ -26,9 +26,10 @@ fn digit_char(digit: u8) -> u8
     }
 }
 
-#[tactic(auto, unfolding(crate::specs::Print::escaped))]
+#[tactic(auto, using(crate::proofs::Kept::kept), unfolding(crate::specs::Print::escaped))]
 fn print_byte(b: u8, out: &mut Vec<u8>) -> Result<(), AllocError>
-    ensures { OnOk result (out.new.items ≡ out.old.items ++ escaped b) }
+    ensures ok { OnOk result (out.new.items ≡ out.old.items ++ escaped b) }
+    ensures kept { OnErr result (Extends out.old.items out.new.items) }
 {
     match b {
         b'"' => out.extend_from_slice(b"\\\""),
@@ -53,9 +54,10 @@ fn print_byte(b: u8, out: &mut Vec<u8>) -> Result<(), AllocError>
     }
 }
 
-/// Appends what stands between the quotes of the JSON string with this content.
-pub fn print_content(text: &[u8], out: &mut Vec<u8>) -> Result<(), AllocError>
-    ensures { OnOk result (out.new.items ≡ out.old.items ++ flat_map escaped text.now) }
+#[tactic(auto, using(crate::proofs::Kept::kept))]
+fn write_content(text: &[u8], out: &mut Vec<u8>) -> Result<(), AllocError>
+    ensures ok { OnOk result (out.new.items ≡ out.old.items ++ flat_map escaped text.now) }
+    ensures kept { OnErr result (Extends out.old.items out.new.items) }
 {
     let mut rest = text;
     'parts: loop {
@@ -71,20 +73,23 @@ pub fn print_content(text: &[u8], out: &mut Vec<u8>) -> Result<(), AllocError>
     }
 }
 
+#[tactic(auto, using(crate::proofs::Kept::kept))]
 fn print_string(text: &str, out: &mut Vec<u8>) -> Result<(), AllocError>
-    ensures { OnOk result (out.new.items ≡ out.old.items ++ string_text text.now) }
+    ensures ok { OnOk result (out.new.items ≡ out.old.items ++ string_text text.now) }
+    ensures kept { OnErr result (Extends out.old.items out.new.items) }
 {
     out.push(b'"')?;
-    print_content(text.as_bytes(), out)?;
+    write_content(text.as_bytes(), out)?;
     out.push(b'"')?;
     Ok(())
 }
 
-#[tactic(auto, using(crate::proofs::Prints::digits), unfolding(crate::specs::Print::padded))]
+#[tactic(auto, using(crate::proofs::Prints::digits, crate::proofs::Kept::kept), unfolding(crate::specs::Print::padded))]
 fn print_digits(digits: u32, unit: u64, n: u64, out: &mut Vec<u8>) -> Result<(), AllocError>
     requires unit { (unit ≡ 10 ^ digits) × (digits ≤ 18) }
     requires small { n < unit }
-    ensures { OnOk result (out.new.items ≡ out.old.items ++ padded digits n) }
+    ensures ok { OnOk result (out.new.items ≡ out.old.items ++ padded digits n) }
+    ensures kept { OnErr result (Extends out.old.items out.new.items) }
 {
     let mut left = n;
     let mut unit = unit;
@@ -98,10 +103,11 @@ fn print_digits(digits: u32, unit: u64, n: u64, out: &mut Vec<u8>) -> Result<(),
     Ok(())
 }
 
-#[tactic(auto, using(crate::proofs::Prints::fractions))]
+#[tactic(auto, using(crate::proofs::Prints::fractions, crate::proofs::Kept::kept))]
 fn print_fraction(n: u64, out: &mut Vec<u8>) -> Result<(), AllocError>
     requires { n < 10 ^ 18 }
-    ensures { OnOk result (out.new.items ≡ out.old.items ++ with_point (trimmed 18 n)) }
+    ensures ok { OnOk result (out.new.items ≡ out.old.items ++ with_point (trimmed 18 n)) }
+    ensures kept { OnErr result (Extends out.old.items out.new.items) }
 {
     let mut left = n;
     let mut unit = 1_000_000_000_000_000_000;
@@ -119,8 +125,10 @@ fn print_fraction(n: u64, out: &mut Vec<u8>) -> Result<(), AllocError>
     Ok(())
 }
 
+#[tactic(auto, using(crate::proofs::Kept::kept))]
 fn print_magnitude(n: u128, out: &mut Vec<u8>) -> Result<(), AllocError>
-    ensures { OnOk result (out.new.items ≡ out.old.items ++ magnitude_text n) }
+    ensures ok { OnOk result (out.new.items ≡ out.old.items ++ magnitude_text n) }
+    ensures kept { OnErr result (Extends out.old.items out.new.items) }
 {
     let mut buffer = itoa::Buffer::new();
     let whole = buffer.format(n / 1_000_000_000_000_000_000);
@@ -129,8 +137,10 @@ fn print_magnitude(n: u128, out: &mut Vec<u8>) -> Result<(), AllocError>
     Ok(())
 }
 
+#[tactic(auto, using(crate::proofs::Kept::kept))]
 fn print_number(units: i128, out: &mut Vec<u8>) -> Result<(), AllocError>
-    ensures { OnOk result (out.new.items ≡ out.old.items ++ number_text units) }
+    ensures ok { OnOk result (out.new.items ≡ out.old.items ++ number_text units) }
+    ensures kept { OnErr result (Extends out.old.items out.new.items) }
 {
     if units < 0 {
         out.push(b'-')?;
@@ -139,8 +149,10 @@ fn print_number(units: i128, out: &mut Vec<u8>) -> Result<(), AllocError>
     Ok(())
 }
 
+#[tactic(auto, using(crate::proofs::Kept::kept))]
 fn print_date(date: i64, out: &mut Vec<u8>) -> Result<(), AllocError>
-    ensures { OnOk result (out.new.items ≡ out.old.items ++ date_text date) }
+    ensures ok { OnOk result (out.new.items ≡ out.old.items ++ date_text date) }
+    ensures kept { OnErr result (Extends out.old.items out.new.items) }
 {
     out.extend_from_slice(b"{\"$date\":")?;
     let mut buffer = itoa::Buffer::new();
@@ -149,8 +161,10 @@ fn print_date(date: i64, out: &mut Vec<u8>) -> Result<(), AllocError>
     Ok(())
 }
 
+#[tactic(auto, using(crate::proofs::Kept::kept))]
 fn print_bool(b: bool, out: &mut Vec<u8>) -> Result<(), AllocError>
-    ensures { OnOk result (out.new.items ≡ out.old.items ++ boolean_text b) }
+    ensures ok { OnOk result (out.new.items ≡ out.old.items ++ boolean_text b) }
+    ensures kept { OnErr result (Extends out.old.items out.new.items) }
 {
     if b {
         out.extend_from_slice(b"true")?;
@@ -161,8 +175,10 @@ fn print_bool(b: bool, out: &mut Vec<u8>) -> Result<(), AllocError>
 }
 
 // What stands before the part at this place.
+#[tactic(auto, using(crate::proofs::Kept::kept))]
 fn print_separator(place: usize, out: &mut Vec<u8>) -> Result<(), AllocError>
-    ensures { OnOk result (out.new.items ≡ out.old.items ++ separator (place == 0)) }
+    ensures ok { OnOk result (out.new.items ≡ out.old.items ++ separator (place == 0)) }
+    ensures kept { OnErr result (Extends out.old.items out.new.items) }
 {
     if place > 0 {
         out.push(b',')?;
@@ -171,9 +187,10 @@ fn print_separator(place: usize, out: &mut Vec<u8>) -> Result<(), AllocError>
 }
 
 #[cycle(print)]
-#[tactic(auto, using(crate::proofs::Steps::sizes, crate::proofs::Steps::steps))]
+#[tactic(auto, using(crate::proofs::Steps::sizes, crate::proofs::Steps::steps, crate::proofs::Kept::kept))]
 pub(crate) fn print_tree(value: &Value, out: &mut Vec<u8>) -> Result<(), AllocError>
-    ensures { OnOk result (out.new.items ≡ out.old.items ++ text_of (tree value.now)) }
+    ensures ok { OnOk result (out.new.items ≡ out.old.items ++ text_of (tree value.now)) }
+    ensures kept { OnErr result (Extends out.old.items out.new.items) }
 {
     match value {
         Value::Null => out.extend_from_slice(b"null"),
@@ -187,9 +204,10 @@ pub(crate) fn print_tree(value: &Value, out: &mut Vec<u8>) -> Result<(), AllocEr
 }
 
 #[cycle(print)]
-#[tactic(auto, using(crate::proofs::Steps::sizes, crate::proofs::Steps::steps))]
+#[tactic(auto, using(crate::proofs::Steps::sizes, crate::proofs::Steps::steps, crate::proofs::Kept::kept))]
 fn print_elements(elements: &Items, out: &mut Vec<u8>) -> Result<(), AllocError>
-    ensures { OnOk result (out.new.items ≡ out.old.items ++ text_of (list (elements_of elements.now))) }
+    ensures ok { OnOk result (out.new.items ≡ out.old.items ++ text_of (list (elements_of elements.now))) }
+    ensures kept { OnErr result (Extends out.old.items out.new.items) }
 {
     out.push(b'[')?;
     for i in 0..elements.len() {
@@ -204,9 +222,10 @@ fn print_elements(elements: &Items, out: &mut Vec<u8>) -> Result<(), AllocError>
 }
 
 #[cycle(print)]
-#[tactic(auto, using(crate::proofs::Steps::sizes, crate::proofs::Steps::steps))]
+#[tactic(auto, using(crate::proofs::Steps::sizes, crate::proofs::Steps::steps, crate::proofs::Kept::kept))]
 fn print_members(members: &Members, out: &mut Vec<u8>) -> Result<(), AllocError>
-    ensures { OnOk result (out.new.items ≡ out.old.items ++ text_of (object (members_of members.now))) }
+    ensures ok { OnOk result (out.new.items ≡ out.old.items ++ text_of (object (members_of members.now))) }
+    ensures kept { OnErr result (Extends out.old.items out.new.items) }
 {
     out.push(b'{')?;
     for i in 0..members.len() {
@@ -222,12 +241,30 @@ fn print_members(members: &Members, out: &mut Vec<u8>) -> Result<(), AllocError>
     Ok(())
 }
 
+/// Appends what stands between the quotes of the JSON string with this content.
+pub fn print_content(text: &[u8], out: &mut Vec<u8>) -> Result<(), AllocError>
+    ensures ok { OnOk result (out.new.items ≡ out.old.items ++ flat_map escaped text.now) }
+    ensures unchanged { OnErr result (out.new.items ≡ out.old.items) }
+{
+    let before = out.len();
+    let written = write_content(text, out);
+    if written.is_err() {
+        out.truncate(before);
+    }
+    written
+}
+
 /// Appends the canonical text of the value.
 pub fn print_value(value: &Value, out: &mut Vec<u8>) -> Result<(), TextFault>
     ensures ok { OnOk result (out.new.items ≡ out.old.items ++ text_of (tree value.now)) }
     ensures err { IfErr result (λ e. e ≡ NoMemory) }
+    ensures unchanged { OnErr result (out.new.items ≡ out.old.items) }
 {
-    print_tree(value, out)?;
+    let before = out.len();
+    if print_tree(value, out).is_err() {
+        out.truncate(before);
+        return Err(TextFault::NoMemory);
+    }
     Ok(())
 }
 

@@ -18,7 +18,7 @@ returns-then-k-eq0 c =
     let none = no_point c.zeros.k c.zeros.left _ (omega arith) c.zeros.invariant.same in
     search (rules, none)
 
-pub returns : goal.returns
-returns c =
-    c.in_ok-print_digits.ensures ∙ ap (λ l. l ++ padded c.zeros.k c.zeros.left) c.in_ok-push.ensures.items ∙ append_assoc c.args.out.now.items (46 ∷ []) (padded c.zeros.k c.zeros.left)
+pub returns-clause-ok : goal.returns-clause-ok
+returns-clause-ok c =
+    c.in_ok-print_digits.ensures.ok ∙ ap (λ l. l ++ padded c.zeros.k c.zeros.left) c.in_ok-push.ensures.items ∙ append_assoc c.args.out.now.items (46 ∷ []) (padded c.zeros.k c.zeros.left)
     ∙ ap (λ l. c.args.out.now.items ++ l) (sym (some_point c.zeros.k c.zeros.left _ (omega arith) (omega arith) c.zeros.invariant.same))
