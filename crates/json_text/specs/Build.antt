@@ -10,7 +10,7 @@ use Rattle.json_text.specs.declared.builder.Slot.{Slot}
 use Rattle.json_text.specs.declared.builder.Slot.TheVariants as slots
 use Rattle.json_text.specs.declared.builder.Place.{Place}
 use Rattle.json_text.specs.declared.builder.Place.TheVariants as places
-use Rattle.json_text.specs.declared.builder.State.{State}
+use Rattle.json_text.specs.declared.builder.Builder.{Builder}
 use Rattle.json_text.specs.declared.builder.Step.{Step}
 use Rattle.json_text.specs.declared.builder.Step.TheVariants as steps
 use Rattle.json_text.specs.declared.builder.Refusal.{Refusal}
@@ -39,18 +39,16 @@ place_of (places.Complete v) = machine.complete (tree v)
 abbrev pub outer_of : List Slot → List (machine.Slot Tree)
 outer_of outer = reverse (map slot_of outer)
 
-abbrev pub state_of : State → machine.State Tree
+abbrev pub state_of : Builder → machine.State Tree
 state_of s = record { outer = outer_of s.outer.items; place = place_of s.place }
 
-abbrev pub step_of : Step → machine.Step Tree
-step_of (steps.More s) = machine.more (state_of s)
-step_of (steps.Done v) = machine.done (tree v)
-
--- the builder made this step, unless memory ran out
+-- the step is refused so, unless memory ran out
 abbrev pub Refuses : Refusal → machine.Step Tree → Type 0
 Refuses refusals.Memory step = Unit {0}
 Refuses (refusals.Fault k) step = step ≡ machine.fault (kind_of k)
 
-abbrev pub Makes : Result Step Refusal → machine.Step Tree → Type 0
-Makes (Ok made) step = step ≡ step_of made
-Makes (Err e) step = Refuses e step
+-- the builder made this step, and stands there where it goes on
+abbrev pub Makes : Result Step Refusal → machine.State Tree → machine.Step Tree → Type 0
+Makes (Ok steps.More) next step = step ≡ machine.more next
+Makes (Ok (steps.Done v)) next step = step ≡ machine.done (tree v)
+Makes (Err e) next step = Refuses e step

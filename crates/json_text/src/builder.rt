@@ -1,5 +1,6 @@
 // A value, built from tokens.
 ghost use Rattle.std.specs.Prelude.{◌≡◌};
+ghost use Rattle.json_tree.specs.Tree.{Tree};
 ghost use Rattle.json_tree.specs.View.{tree};
 ghost use Rattle.json_tree.specs.Dates.{whole_i64, date_of};
 ghost use Rattle.json_text.specs.Grammar.{object_value};
@@ -10,6 +11,7 @@ ghost use Rattle.json_text.specs.Build.{Makes, slot_of, outer_of, place_of, stat
 use crate::lex::Token;
 use json_tree::{Items, Members, ObjectBuilder, Text, TreeFault, Value};
 use std::alloc::{AllocFailed, Global};
+use std::mem;
 
 const MAX_LEVELS: usize = 32;
 
@@ -36,14 +38,15 @@ pub(crate) enum Place {
 
 // Where the values of the levels that are open go, the innermost last, and what may stand next.
 #[derive(Drop)]
-pub(crate) struct State {
-    pub(crate) outer: Vec<Slot>,
+pub(crate) struct Builder {
+    outer: Vec<Slot>,
     pub(crate) place: Place,
 }
 
+// What a token did.
 #[derive(Drop)]
 pub(crate) enum Step {
-    More(State),
+    More,
     Done(Value),
 }
 
@@ -79,15 +82,6 @@ impl From<TreeFault> for Refusal {
 
     fn from(_refused: TreeFault) -> Refusal {
         Refusal::Memory
-    }
-}
-
-pub(crate) fn start(alloc: Global) -> State
-    ensures { state_of result ≡ machine.start }
-{
-    State {
-        outer: Vec::new(alloc),
-        place: Place::Want(Slot::Whole),
     }
 }
 
@@ -139,130 +133,8 @@ fn object_value(members: Members) -> Value
     }
 }
 
-fn at(outer: Vec<Slot>, place: Place) -> Result<Step, Refusal>
-    ensures { Makes result (machine.at (outer_of outer.items) (place_of place)) }
-{
-    Ok(Step::More(State { outer, place }))
-}
-
-fn deliver(value: Value, slot: Slot, outer: Vec<Slot>) -> Result<Step, Refusal>
-    ensures { Makes result (machine.deliver machine.trees (tree value) (slot_of slot) (outer_of outer.items)) }
-{
-    match slot {
-        Slot::Whole => at(outer, Place::Complete(value)),
-        Slot::Element(elements) => {
-            let mut elements = elements;
-            elements.push(value)?;
-            at(outer, Place::AfterElement(elements))
-        }
-        Slot::Named(members, name) => {
-            let mut members = members;
-            members.put(name, value)?;
-            at(outer, Place::AfterMember(members))
-        }
-    }
-}
-
-fn close(value: Value, outer: Vec<Slot>) -> Result<Step, Refusal>
-    ensures { Makes result (machine.close machine.trees (tree value) (outer_of outer.items)) }
-{
-    let mut outer = outer;
-    match outer.pop() {
-        Some(slot) => deliver(value, slot, outer),
-        None => Err(Refusal::Fault(Kind::Syntax)),
-    }
-}
-
-fn open(slot: Slot, outer: Vec<Slot>, place: Place) -> Result<Step, Refusal>
-    ensures { Makes result (machine.opened machine.trees (slot_of slot) (outer_of outer.items) (place_of place)) }
-{
-    let mut outer = outer;
-    if outer.len() >= MAX_LEVELS {
-        return Err(Refusal::Fault(Kind::TooDeep));
-    }
-    outer.push(slot)?;
-    at(outer, place)
-}
-
-fn take_value(slot: Slot, outer: Vec<Slot>, token: Token) -> Result<Step, Refusal>
-    ensures { Makes result (machine.step_value machine.trees (outer_of outer.items) (slot_of slot) (token_of token)) }
-{
-    match token {
-        Token::BeginObject => open(slot, outer, Place::FirstName),
-        Token::BeginArray => open(slot, outer, Place::FirstElement),
-        Token::String(text) => deliver(Value::Text(text), slot, outer),
-        Token::Number(Some(n)) => deliver(Value::Num(n), slot, outer),
-        Token::Number(None) => Err(Refusal::Fault(Kind::OutOfRange)),
-        Token::Boolean(b) => deliver(Value::Bool(b), slot, outer),
-        Token::Null => deliver(Value::Null, slot, outer),
-        _ => Err(Refusal::Fault(Kind::Syntax)),
-    }
-}
-
-fn take_first_element(alloc: Global, outer: Vec<Slot>, token: Token) -> Result<Step, Refusal>
-    ensures { Makes result (machine.step_first_element machine.trees (outer_of outer.items) (token_of token)) }
-{
-    match token {
-        Token::EndArray => close(Value::List(Items::new(alloc)), outer),
-        _ => take_value(Slot::Element(Items::new(alloc)), outer, token),
-    }
-}
-
-fn take_element(elements: Items, outer: Vec<Slot>, token: Token) -> Result<Step, Refusal>
-    ensures { Makes result (machine.step_element machine.trees (outer_of outer.items) elements (token_of token)) }
-{
-    match token {
-        Token::ValueSeparator => at(outer, Place::Want(Slot::Element(elements))),
-        Token::EndArray => close(Value::List(elements), outer),
-        _ => Err(Refusal::Fault(Kind::Syntax)),
-    }
-}
-
-fn take_first_name(alloc: Global, outer: Vec<Slot>, token: Token) -> Result<Step, Refusal>
-    ensures { Makes result (machine.step_first_name machine.trees (outer_of outer.items) (token_of token)) }
-{
-    match token {
-        Token::String(name) => at(outer, Place::Colon(ObjectBuilder::new(alloc), name)),
-        Token::EndObject => close(object_value(Members::new(alloc)), outer),
-        _ => Err(Refusal::Fault(Kind::Syntax)),
-    }
-}
-
-fn take_name(members: ObjectBuilder, outer: Vec<Slot>, token: Token) -> Result<Step, Refusal>
-    ensures { Makes result (machine.step_name (outer_of outer.items) members (token_of token)) }
-{
-    match token {
-        Token::String(name) => at(outer, Place::Colon(members, name)),
-        _ => Err(Refusal::Fault(Kind::Syntax)),
-    }
-}
-
-fn take_colon(
-    members: ObjectBuilder,
-    name: Text,
-    outer: Vec<Slot>,
-    token: Token,
-) -> Result<Step, Refusal>
-    ensures { Makes result (machine.step_colon (outer_of outer.items) members name (token_of token)) }
-{
-    match token {
-        Token::NameSeparator => at(outer, Place::Want(Slot::Named(members, name))),
-        _ => Err(Refusal::Fault(Kind::Syntax)),
-    }
-}
-
-fn take_member(members: ObjectBuilder, outer: Vec<Slot>, token: Token) -> Result<Step, Refusal>
-    ensures { Makes result (machine.step_member machine.trees (outer_of outer.items) members (token_of token)) }
-{
-    match token {
-        Token::ValueSeparator => at(outer, Place::Name(members)),
-        Token::EndObject => close(object_value(members.finish()), outer),
-        _ => Err(Refusal::Fault(Kind::Syntax)),
-    }
-}
-
 fn take_end(value: Value, token: Token) -> Result<Step, Refusal>
-    ensures { Makes result (machine.step_complete (tree value) (token_of token)) }
+    ensures { (next : machine.State Tree) → Makes result next (machine.step_complete (tree value) (token_of token)) }
 {
     match token {
         Token::End => Ok(Step::Done(value)),
@@ -270,19 +142,161 @@ fn take_end(value: Value, token: Token) -> Result<Step, Refusal>
     }
 }
 
-#[tactic(auto, unfolding(crate::specs::Machine::step))]
-pub(crate) fn take(alloc: Global, state: State, token: Token) -> Result<Step, Refusal>
-    ensures { Makes result (machine.step machine.trees (state_of state) (token_of token)) }
-{
-    let State { outer, place } = state;
-    match place {
-        Place::Want(slot) => take_value(slot, outer, token),
-        Place::FirstElement => take_first_element(alloc, outer, token),
-        Place::AfterElement(elements) => take_element(elements, outer, token),
-        Place::FirstName => take_first_name(alloc, outer, token),
-        Place::Name(members) => take_name(members, outer, token),
-        Place::Colon(members, name) => take_colon(members, name, outer, token),
-        Place::AfterMember(members) => take_member(members, outer, token),
-        Place::Complete(value) => take_end(value, token),
+impl Builder {
+    pub(crate) fn new(alloc: Global) -> Builder
+        ensures { state_of result ≡ machine.start }
+    {
+        Builder {
+            outer: Vec::new(alloc),
+            place: Place::Want(Slot::Whole),
+        }
+    }
+
+    fn deliver(&mut self, value: Value, slot: Slot) -> Result<Step, Refusal>
+        ensures { Makes result (state_of self.new) (machine.deliver machine.trees (tree value) (slot_of slot) (outer_of self.old.outer.items)) }
+    {
+        match slot {
+            Slot::Whole => self.place = Place::Complete(value),
+            Slot::Element(elements) => {
+                let mut elements = elements;
+                elements.push(value)?;
+                self.place = Place::AfterElement(elements);
+            }
+            Slot::Named(members, name) => {
+                let mut members = members;
+                members.put(name, value)?;
+                self.place = Place::AfterMember(members);
+            }
+        }
+        Ok(Step::More)
+    }
+
+    fn close(&mut self, value: Value) -> Result<Step, Refusal>
+        ensures { Makes result (state_of self.new) (machine.close machine.trees (tree value) (outer_of self.old.outer.items)) }
+    {
+        match self.outer.pop() {
+            Some(slot) => self.deliver(value, slot),
+            None => Err(Refusal::Fault(Kind::Syntax)),
+        }
+    }
+
+    fn open(&mut self, slot: Slot, place: Place) -> Result<Step, Refusal>
+        ensures { Makes result (state_of self.new) (machine.opened machine.trees (slot_of slot) (outer_of self.old.outer.items) (place_of place)) }
+    {
+        if self.outer.len() >= MAX_LEVELS {
+            return Err(Refusal::Fault(Kind::TooDeep));
+        }
+        self.outer.push(slot)?;
+        self.place = place;
+        Ok(Step::More)
+    }
+
+    fn take_value(&mut self, slot: Slot, token: Token) -> Result<Step, Refusal>
+        ensures { Makes result (state_of self.new) (machine.step_value machine.trees (outer_of self.old.outer.items) (slot_of slot) (token_of token)) }
+    {
+        match token {
+            Token::BeginObject => self.open(slot, Place::FirstName),
+            Token::BeginArray => self.open(slot, Place::FirstElement),
+            Token::String(text) => self.deliver(Value::Text(text), slot),
+            Token::Number(Some(n)) => self.deliver(Value::Num(n), slot),
+            Token::Number(None) => Err(Refusal::Fault(Kind::OutOfRange)),
+            Token::Boolean(b) => self.deliver(Value::Bool(b), slot),
+            Token::Null => self.deliver(Value::Null, slot),
+            _ => Err(Refusal::Fault(Kind::Syntax)),
+        }
+    }
+
+    fn take_first_element(&mut self, alloc: Global, token: Token) -> Result<Step, Refusal>
+        ensures { Makes result (state_of self.new) (machine.step_first_element machine.trees (outer_of self.old.outer.items) (token_of token)) }
+    {
+        match token {
+            Token::EndArray => self.close(Value::List(Items::new(alloc))),
+            _ => self.take_value(Slot::Element(Items::new(alloc)), token),
+        }
+    }
+
+    fn take_element(&mut self, elements: Items, token: Token) -> Result<Step, Refusal>
+        ensures { Makes result (state_of self.new) (machine.step_element machine.trees (outer_of self.old.outer.items) elements (token_of token)) }
+    {
+        match token {
+            Token::ValueSeparator => {
+                self.place = Place::Want(Slot::Element(elements));
+                Ok(Step::More)
+            }
+            Token::EndArray => self.close(Value::List(elements)),
+            _ => Err(Refusal::Fault(Kind::Syntax)),
+        }
+    }
+
+    fn take_first_name(&mut self, alloc: Global, token: Token) -> Result<Step, Refusal>
+        ensures { Makes result (state_of self.new) (machine.step_first_name machine.trees (outer_of self.old.outer.items) (token_of token)) }
+    {
+        match token {
+            Token::String(name) => {
+                self.place = Place::Colon(ObjectBuilder::new(alloc), name);
+                Ok(Step::More)
+            }
+            Token::EndObject => self.close(object_value(Members::new(alloc))),
+            _ => Err(Refusal::Fault(Kind::Syntax)),
+        }
+    }
+
+    fn take_name(&mut self, members: ObjectBuilder, token: Token) -> Result<Step, Refusal>
+        ensures { Makes result (state_of self.new) (machine.step_name (outer_of self.old.outer.items) members (token_of token)) }
+    {
+        match token {
+            Token::String(name) => {
+                self.place = Place::Colon(members, name);
+                Ok(Step::More)
+            }
+            _ => Err(Refusal::Fault(Kind::Syntax)),
+        }
+    }
+
+    fn take_colon(
+        &mut self,
+        members: ObjectBuilder,
+        name: Text,
+        token: Token,
+    ) -> Result<Step, Refusal>
+        ensures { Makes result (state_of self.new) (machine.step_colon (outer_of self.old.outer.items) members name (token_of token)) }
+    {
+        match token {
+            Token::NameSeparator => {
+                self.place = Place::Want(Slot::Named(members, name));
+                Ok(Step::More)
+            }
+            _ => Err(Refusal::Fault(Kind::Syntax)),
+        }
+    }
+
+    fn take_member(&mut self, members: ObjectBuilder, token: Token) -> Result<Step, Refusal>
+        ensures { Makes result (state_of self.new) (machine.step_member machine.trees (outer_of self.old.outer.items) members (token_of token)) }
+    {
+        match token {
+            Token::ValueSeparator => {
+                self.place = Place::Name(members);
+                Ok(Step::More)
+            }
+            Token::EndObject => self.close(object_value(members.finish())),
+            _ => Err(Refusal::Fault(Kind::Syntax)),
+        }
+    }
+
+    // The token after these that were taken.
+    #[tactic(auto, unfolding(crate::specs::Machine::step))]
+    pub(crate) fn take(&mut self, alloc: Global, token: Token) -> Result<Step, Refusal>
+        ensures { Makes result (state_of self.new) (machine.step machine.trees (state_of self.old) (token_of token)) }
+    {
+        match mem::replace(&mut self.place, Place::FirstElement) {
+            Place::Want(slot) => self.take_value(slot, token),
+            Place::FirstElement => self.take_first_element(alloc, token),
+            Place::AfterElement(elements) => self.take_element(elements, token),
+            Place::FirstName => self.take_first_name(alloc, token),
+            Place::Name(members) => self.take_name(members, token),
+            Place::Colon(members, name) => self.take_colon(members, name, token),
+            Place::AfterMember(members) => self.take_member(members, token),
+            Place::Complete(value) => take_end(value, token),
+        }
     }
 }

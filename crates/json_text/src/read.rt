@@ -11,7 +11,7 @@ ghost use Rattle.json_text.specs.Lex.{tokens};
 ghost use Rattle.json_text.specs.Machine as machine;
 ghost use Rattle.json_text.specs.Builds.{Builds, IsFor};
 
-use crate::builder::{Kind, Refusal, State, Step, start, take};
+use crate::builder::{Builder, Kind, Refusal, Step};
 use crate::chars::after_blanks;
 use crate::lex::next_token;
 use crate::scalars::go_ahead;
@@ -75,19 +75,15 @@ fn fault_at(refusal: Refusal, at: u64) -> TextFault
 fn read_text(alloc: Global, text: &str) -> Result<Value, TextFault>
     ensures { Builds result (machine.run machine.trees machine.start (tokens text.now)) }
 {
-    let mut state = start(alloc);
+    let mut builder = Builder::new(alloc);
     let mut rest = text;
     'tokens: loop {
-        let State { outer, place } = state;
-        let (place, ahead) = go_ahead(alloc, place, rest)?;
+        let ahead = go_ahead(alloc, &mut builder.place, rest)?;
         let from = after_blanks(ahead);
         let (token, after) = next_token(alloc, from)?;
-        match take(alloc, State { outer, place }, token) {
+        match builder.take(alloc, token) {
             Ok(step) => match step {
-                Step::More(next) => {
-                    state = next;
-                    rest = after;
-                }
+                Step::More => rest = after,
                 Step::Done(value) => return Ok(value),
             },
             Err(refusal) => return Err(fault_at(refusal, (text.len() - from.len()) as u64)),

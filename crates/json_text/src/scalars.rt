@@ -15,6 +15,7 @@ use crate::read::TextFault;
 use crate::string::string_of;
 use json_tree::{Items, ObjectBuilder, Text, Value};
 use std::alloc::Global;
+use std::mem;
 
 // What a member lacks, or that it lacks nothing.
 #[derive(Drop)]
@@ -185,13 +186,8 @@ fn take_first_scalars<'a>(alloc: Global, text: &'a str) -> Result<(Place, &'a st
     }
 }
 
-// As far as scalars go, and the names and separators between them.
 #[tactic(auto, using(crate::proofs::Ahead::run_laws))]
-pub(crate) fn go_ahead<'a>(
-    alloc: Global,
-    place: Place,
-    text: &'a str,
-) -> Result<(Place, &'a str), TextFault>
+fn go_from<'a>(alloc: Global, place: Place, text: &'a str) -> Result<(Place, &'a str), TextFault>
     ensures ok { IfOk result (λ r. GoesOn (place_of place) text.now (place_of r.0) r.1.now) }
     ensures err { IfErr result (λ e. e ≡ NoMemory) }
 {
@@ -212,4 +208,19 @@ pub(crate) fn go_ahead<'a>(
         },
         _ => Ok((place, text)),
     }
+}
+
+// As far as scalars go, and the names and separators between them.
+pub(crate) fn go_ahead<'a>(
+    alloc: Global,
+    place: &mut Place,
+    text: &'a str,
+) -> Result<&'a str, TextFault>
+    ensures ok { IfOk result (λ rest. GoesOn (place_of place.old) text.now (place_of place.new) rest.now) }
+    ensures err { IfErr result (λ e. e ≡ NoMemory) }
+{
+    let from = mem::replace(place, Place::FirstElement);
+    let (next, rest) = go_from(alloc, from, text)?;
+    *place = next;
+    Ok(rest)
 }
