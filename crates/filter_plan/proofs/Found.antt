@@ -1,5 +1,5 @@
 -- Probes, and the value at the path.
-use Rattle.std.proofs.Common.{◌≡◌, ◌<◌, ◌^◌, ◌⊎◌, inl, inr, ℕ, zero, suc, ℤ, Bool, true, false, ◌&&◌, ◌||◌, ◌==◌, not, List, [], ◌∷◌, length, Option, Some, None, is_some, slice_get, refl, sym, ◌∙◌, ap, ap₂, subst, arith}
+use Rattle.std.proofs.Common.{◌≡◌, ◌<◌, ◌^◌, ◌⊎◌, inl, inr, ℕ, zero, suc, ℤ, Bool, true, false, ◌&&◌, ◌||◌, ◌==◌, not, List, [], ◌∷◌, length, Option, Some, None, is_some, slice_get, IsTrue, ◌↔◌, refl, sym, ◌∙◌, ap, ap₂, subst, arith}
 use Rattle.std.specs.List.{list_any, Contains}
 use Rattle.std.specs.Str.{bytes_eq}
 use Rattle.std.specs.Ordering.{nat_cmp, int_cmp, is_gt, is_ge, is_le, ordering_reverse}
@@ -16,8 +16,7 @@ use Rattle.json_tree.specs.Tree.{Tree, null, boolean, number, text, date, list, 
 use Rattle.doc_paths.specs.At.{at}
 use Rattle.doc_paths.specs.Text.{parts, IsPath, path_fault}
 use Rattle.filter_tree.specs.Paths.{is_path}
-use Rattle.filter_tree.specs.Same.{same}
-use Rattle.filter_tree.proofs.Alike.{same-Decides}
+use Rattle.json_tree.specs.Same.{same}
 use Rattle.shred_cols.specs.Entry.{kept_of, key_of, Says, IsSize}
 use Rattle.shred_cols.specs.Probe.{inside, meets, same_kept, number_within, text_within, ends}
 use Rattle.shred_cols.specs.Columns.{IsColumns, Belongs}
@@ -169,21 +168,25 @@ elements_within : (ts : Elements) → elements_of (list_of_elements ts) ≡ ts
 elements_within no_elements = refl
 elements_within (element t ts) = ap (λ x. element t x) (elements_within ts)
 
-pub at_equals : (v : Option Tree) (x : Tree) → IsAt v x → equals v x ≡ true
-at_equals v x (inl h) = ap (λ o. equals o x) h ∙ left_true (same x x) (list_any (λ y. same y x) (elements_in x)) ((same-Decides x x).1 refl)
-at_equals v x (inr (ts, i, h, at)) =
+-- the test of sameness tells equal values
+abbrev pub Alike : Type 0
+Alike = (a b : Tree) → IsTrue (same a b) ↔ (a ≡ b)
+
+pub at_equals : Alike → (v : Option Tree) (x : Tree) → IsAt v x → equals v x ≡ true
+at_equals alike v x (inl h) = ap (λ o. equals o x) h ∙ left_true (same x x) (list_any (λ y. same y x) (elements_in x)) ((alike x x).1 refl)
+at_equals alike v x (inr (ts, i, h, at)) =
     ap (λ o. equals o x) h
     ∙ right_true (same (list (elements_of ts)) x) (list_any (λ y. same y x) (elements_in (list (elements_of ts))))
-    (ap (list_any (λ y. same y x)) (trees_within ts) ∙ passes (λ y. same y x) ts i x at ((same-Decides x x).1 refl))
+    (ap (list_any (λ y. same y x)) (trees_within ts) ∙ passes (λ y. same y x) ts i x at ((alike x x).1 refl))
 
-pub equals_at : (v : Option Tree) (x : Tree) → equals v x ≡ true → IsAt v x
-equals_at None x h = Prim.cc h
-equals_at (Some u) x h = elim (either_true (same u x) (list_any (λ y. same y x) (elements_in u)) h) [ inl q ↦ inl (ap Some ((same-Decides u x).0 q)) | inr q ↦ inr (within u x q) ]
+pub equals_at : Alike → (v : Option Tree) (x : Tree) → equals v x ≡ true → IsAt v x
+equals_at alike None x h = Prim.cc h
+equals_at alike (Some u) x h = elim (either_true (same u x) (list_any (λ y. same y x) (elements_in u)) h) [ inl q ↦ inl (ap Some ((alike u x).0 q)) | inr q ↦ inr (within u x q) ]
   where
     within : (u x : Tree) → list_any (λ y. same y x) (elements_in u) ≡ true → (ts : List Tree) × (i : ℕ) × (Some u ≡ Some (list (elements_of ts))) × (slice_get ts i ≡ Some x)
     within (list es) x q =
         let f = found (λ y. same y x) (list_of_elements es) q in
-        (list_of_elements es, f.1, ap (λ z. Some (list z)) (sym (elements_within es)), f.2 ∙ ap Some ((same-Decides f.0 x).0 f.3))
+        (list_of_elements es, f.1, ap (λ z. Some (list z)) (sym (elements_within es)), f.2 ∙ ap Some ((alike f.0 x).0 f.3))
     within u x q = Prim.cc q
 
 -- ---- probes of the columns of a document

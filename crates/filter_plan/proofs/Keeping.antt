@@ -3,8 +3,9 @@ use Rattle.std.specs.Ordering.{nat_cmp, ordering_then}
 use Rattle.std.specs.declared.cmp.Ordering.{Ordering}
 use Rattle.std.specs.declared.cmp.Ordering.TheVariants.{Less, Equal, Greater}
 use Rattle.std.specs.Cmp.Lexicographic.{slice_cmp}
-use Rattle.std.proofs.Common.{◌≡◌, take, zero, suc, ℕ, true, false, not, List, [], ◌∷◌, is_some, refl, sym}
+use Rattle.std.proofs.Common.{◌≡◌, take, zero, suc, ℕ, true, false, not, List, [], ◌∷◌, is_some, IsTrue, ◌↔◌, refl, sym}
 use Rattle.std.proofs.lemmas.Slice.Eq.{bytes_eq-Decides}
+use Rattle.json_tree.specs.Same.{same}
 use Rattle.json_tree.specs.Tree.{Tree, text}
 use Rattle.json_tree.specs.Writable.{IsWritable}
 use Rattle.json_text.specs.Print.{text_of}
@@ -18,9 +19,11 @@ pub kept_refl : (k : Kept) → same_kept k k ≡ true
 kept_refl (Whole s) = (bytes_eq-Decides s s).1 refl
 kept_refl (Digest s) = (bytes_eq-Decides s s).1 refl
 
--- what a judgement rests on beside the columns: the document is writable, and values with one text are one
+-- what a judgement rests on beside the columns: the document is writable, the test of sameness tells equal
+-- values, and values with one text are one
 pub record Told (d : Tree) : Type 0 where
   pub writable : IsWritable d
+  pub alike : (a b : Tree) → IsTrue (same a b) ↔ (a ≡ b)
   pub apart : (a b : Tree) → IsWritable a → IsWritable b → text_of a ≡ text_of b → a ≡ b
 
 -- what is kept whole is kept of one value alone

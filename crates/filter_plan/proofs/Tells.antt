@@ -76,11 +76,11 @@ pub has_tells : (d : Tree) (c : List Entry) (q : List ℕ) (x : Tree) → Told d
 has_tells d c q x wd wx are path = go (meets (p.Has q (kept_of x)) c) (is_whole (kept_of x)) refl refl
   where
     go : (m w : Bool) → meets (p.Has q (kept_of x)) c ≡ m → is_whole (kept_of x) ≡ w → Tells (of_probe m w) (equals (at d (parts q)) x) (not w && m)
-    go false w e whole = not_true (equals (at d (parts q)) x) (λ h. let t = at_has d c q x are path (equals_at (at d (parts q)) x h) in let clash : true ≡ false = sym t ∙ e in Prim.cc clash)
+    go false w e whole = not_true (equals (at d (parts q)) x) (λ h. let t = at_has d c q x are path (equals_at wd.alike (at d (parts q)) x h) in let clash : true ≡ false = sym t ∙ e in Prim.cc clash)
     go true true e whole =
         let a = has_at d c q (kept_of x) are e in
         let same : a.0 ≡ x = kept_whole d wd a.0 x (writable_at d (parts q) a.0 wd.writable a.1) wx whole a.2 in
-        ap (equals (at d (parts q))) (sym same) ∙ at_equals (at d (parts q)) a.0 a.1
+        ap (equals (at d (parts q))) (sym same) ∙ at_equals wd.alike (at d (parts q)) a.0 a.1
     go true false e whole = refl
 
 pub any_tells : (d : Tree) (c : List Entry) (q : List ℕ) (xs : List Tree) → Told d → AllWritable xs → IsColumns d c → is_path q ≡ true

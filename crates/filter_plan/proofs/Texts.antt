@@ -83,7 +83,7 @@ same_as : (d : Tree) (c : List Entry) (q t : List ℕ) → Told d → IsWritable
 same_as d c q t wd wt are path h sure =
     let l = like t (at d (parts q)) h in
     let e : equals (at d (parts q)) (text t) ≡ true = subst (λ w. Tells w (equals (at d (parts q)) (text t)) (digest_stands c q (text t))) sure (has_tells d c q (text t) wd wt are path) in
-    elim (equals_at (at d (parts q)) (text t) e) [ inl k ↦ k | inr (ts, i, k, at) ↦ (let clash : Some (text l.0) ≡ Some (list (elements_of ts)) = sym l.1 ∙ k in Prim.cc clash) ]
+    elim (equals_at wd.alike (at d (parts q)) (text t) e) [ inl k ↦ k | inr (ts, i, k, at) ↦ (let clash : Some (text l.0) ≡ Some (list (elements_of ts)) = sym l.1 ∙ k in Prim.cc clash) ]
 
 -- where they agree and the operand isn't known to stand there, the condition is open
 opened : (d : Tree) (c : List Entry) (q t : List ℕ) → IsColumns d c → is_path q ≡ true → fronts t (at d (parts q)) ≡ true → (verdict c (has q (text t)) ≡ Yes → ⊥) → front_stands c q (text t) ≡ true

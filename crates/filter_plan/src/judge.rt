@@ -15,6 +15,7 @@ ghost use Rattle.std.specs.Prelude.{map};
 
 use crate::step::{Plan, Step, Verdict};
 use json_text::texts_tell_values;
+use json_tree::same_decides;
 use shred_cols::{Columns, Probe};
 
 fn of_probe(met: bool, exact: bool) -> Verdict
@@ -114,6 +115,7 @@ impl Plan {
     pub fn judge(&self, columns: &Columns) -> Verdict
         ensures { (d : Tree) → (f : FilterTree) → IsPlanOf f self.now → is_ready f ≡ true → FilterIsWritable f → IsWritable d → IsColumns d columns.now → Judged d columns.now f result }
     {
+        same_decides();
         texts_tell_values();
         judge(&self.root, columns)
     }

@@ -1,3 +1,4 @@
+// Plans, and what they tell.
 use shred_cols::Probe;
 use sqlite_items::Items;
 use thiserror::Error;

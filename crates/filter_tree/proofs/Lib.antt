@@ -1,4 +1,3 @@
-pub mod Alike
 pub mod Tests
 pub mod Folds
 pub mod Table

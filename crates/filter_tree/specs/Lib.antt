@@ -1,5 +1,4 @@
 pub mod Paths
-pub mod Same
 pub mod Filters
 pub mod Matches
 pub mod View
