@@ -1,0 +1,93 @@
+-- The errors of replies: each with its code and its message. A client's own text stands in a message as it is.
+use Rattle.std.specs.Prelude.{ℕ, List, ◌++◌, codes, decimal}
+use Rattle.json_tree.specs.Tree.{Tree}
+use Rattle.json_text.specs.Print.{text_of}
+use Rattle.json_text.specs.declared.read.TextFault.{TextFault}
+use Rattle.json_text.specs.declared.read.TextFault.TheVariants.{Syntax, NotUtf8, TooDeep, Number, NoMemory}
+use Rattle.name_tables.specs.declared.code.Code.TheVariants.{InvalidJson, NoCommandMatched, CommandFieldInvalid, InvalidFilterExpression, UnsupportedFilterOperation, ShredBadDocidType, ShredBadDocidEmptyString, ShredDocKeyNameViolation, ShredDocLimitViolation, NumberOutOfRange, DocumentAlreadyExists, CollectionNotExist, InvalidCollectionName, KeyspaceNotExist, StoreFault, VersionsSpent, OutOfMemory}
+use Rattle.reply_env.specs.declared.reply.ErrorItem.{ErrorItem}
+
+-- ---- the body
+
+abbrev pub not_json : ℕ → ErrorItem
+not_json at = record { code = InvalidJson; message = codes "Body is not JSON at byte " ++ decimal at }
+
+abbrev pub not_utf8 : ℕ → ErrorItem
+not_utf8 at = record { code = InvalidJson; message = codes "Body is not UTF-8 at byte " ++ decimal at }
+
+abbrev pub too_deep : ℕ → ErrorItem
+too_deep at = record { code = InvalidJson; message = codes "Body is nested too deep at byte " ++ decimal at }
+
+abbrev pub numeral_out_of_range : ℕ → ErrorItem
+numeral_out_of_range at = record { code = NumberOutOfRange; message = codes "Number is out of range at byte " ++ decimal at }
+
+-- memory ran out after so many accepted writes of the request
+abbrev pub out_of_memory : ℕ → ErrorItem
+out_of_memory accepted = record { code = OutOfMemory; message = codes "Out of memory after " ++ decimal accepted ++ codes " accepted writes" }
+
+-- the bytes of a body spell no value
+abbrev pub unread : TextFault → ErrorItem
+unread (Syntax at) = not_json at
+unread (NotUtf8 at) = not_utf8 at
+unread (TooDeep at) = too_deep at
+unread (Number at) = numeral_out_of_range at
+unread NoMemory = out_of_memory 0
+
+-- ---- the command
+
+abbrev pub no_command : ErrorItem
+no_command = record { code = NoCommandMatched; message = codes "No command matched" }
+
+abbrev pub no_keyspace : List ℕ → ErrorItem
+no_keyspace name = record { code = KeyspaceNotExist; message = codes "Keyspace " ++ name ++ codes " does not exist" }
+
+abbrev pub bad_collection_name : List ℕ → ErrorItem
+bad_collection_name name = record { code = InvalidCollectionName; message = codes "Collection name is invalid: " ++ name }
+
+abbrev pub bad_field : List ℕ → ErrorItem
+bad_field field = record { code = CommandFieldInvalid; message = codes "Command field invalid: " ++ field }
+
+abbrev pub bad_option : List ℕ → ErrorItem
+bad_option name = bad_field (codes "options." ++ name)
+
+-- ---- the filter
+
+abbrev pub bad_filter : List ℕ → ErrorItem
+bad_filter path = record { code = InvalidFilterExpression; message = codes "Filter is invalid at " ++ path }
+
+abbrev pub many_operands : ℕ → ErrorItem
+many_operands found = record { code = InvalidFilterExpression; message = codes "Filter has " ++ decimal found ++ codes " operands, at most 100" }
+
+abbrev pub no_filter_operator : List ℕ → ErrorItem
+no_filter_operator name = record { code = UnsupportedFilterOperation; message = codes "Filter operator " ++ name ++ codes " is not supported" }
+
+-- ---- a document
+
+abbrev pub bad_id_kind : ErrorItem
+bad_id_kind = record { code = ShredBadDocidType; message = codes "Field _id is of the wrong kind" }
+
+abbrev pub empty_id : ErrorItem
+empty_id = record { code = ShredBadDocidEmptyString; message = codes "Field _id is an empty text" }
+
+abbrev pub bad_member_name : List ℕ → ErrorItem
+bad_member_name name = record { code = ShredDocKeyNameViolation; message = codes "Member name is not allowed: " ++ name }
+
+abbrev pub broken_limit : ℕ → ℕ → ℕ → ErrorItem
+broken_limit limit bound found =
+    record { code = ShredDocLimitViolation; message = codes "Document limit " ++ decimal limit ++ codes " is " ++ decimal bound ++ codes ", found " ++ decimal found }
+
+-- ---- the store
+
+-- a document with the id stands there, under this version
+abbrev pub already_exists : Tree → ℕ → ErrorItem
+already_exists id tx = record { code = DocumentAlreadyExists; message = codes "Document " ++ text_of id ++ codes " already exists at version " ++ decimal tx }
+
+abbrev pub no_collection : List ℕ → ErrorItem
+no_collection name = record { code = CollectionNotExist; message = codes "Collection " ++ name ++ codes " does not exist" }
+
+-- the keeper's count of faults before and after the call that failed
+abbrev pub store_fault : ℕ → ℕ → ErrorItem
+store_fault before after = record { code = StoreFault; message = codes "Store fault: " ++ decimal before ++ codes " then " ++ decimal after }
+
+abbrev pub versions_spent : ErrorItem
+versions_spent = record { code = VersionsSpent; message = codes "No version numbers are left" }

@@ -1,0 +1,65 @@
+-- The text of a reply.
+use Rattle.std.specs.Prelude.{◌≡◌, ℕ, Bool, true, false, List, [], ◌∷◌, ◌++◌, Option, Some, None, codes, decimal}
+use Rattle.std.specs.List.{flat_map}
+use Rattle.json_tree.specs.Tree.{Tree}
+use Rattle.json_tree.specs.View.{tree}
+use Rattle.json_tree.specs.declared.value.Value.{Value}
+use Rattle.json_text.specs.Print.{text_of, string_text}
+use Rattle.name_tables.specs.Code.{code_text}
+use Rattle.reply_env.specs.Messages.{out_of_memory}
+use Rattle.reply_env.specs.declared.reply.ErrorItem.{ErrorItem}
+use Rattle.reply_env.specs.declared.reply.SoFar.{SoFar}
+use Rattle.reply_env.specs.declared.reply.SoFar.TheVariants as so_far
+use Rattle.reply_env.specs.declared.reply.Reply.{Reply}
+use Rattle.reply_env.specs.declared.reply.Reply.TheVariants.{Inserted, Found, Counted, Refused, NoMemory}
+
+-- the texts of the parts, with commas between
+abbrev pub with_commas : {X : Type 0} → (X → List ℕ) → List X → List ℕ
+with_commas part [] = []
+with_commas part (x ∷ xs) = part x ++ flat_map (λ y. 44 ∷ part y) xs
+
+-- a document that was looked for, as it is shown
+abbrev pub view_text : Option Value → List ℕ
+view_text None = codes "null"
+view_text (Some view) = text_of (tree view)
+
+-- stands only where more matched than were counted
+abbrev pub more_text : Bool → List ℕ
+more_text true = codes ",\"moreData\":true"
+more_text false = []
+
+-- the ids of inserted documents, in the order of insertion
+abbrev pub inserted_text : List Tree → List ℕ
+inserted_text ids = codes "{\"insertedIds\":[" ++ with_commas text_of ids ++ codes "]}"
+
+-- ---- errors
+
+abbrev pub error_text : ErrorItem → List ℕ
+error_text error = codes "{\"message\":" ++ string_text error.message ++ codes ",\"errorCode\":" ++ string_text (code_text error.code) ++ codes "}"
+
+abbrev pub errors_text : List ErrorItem → List ℕ
+errors_text errors = codes "\"errors\":[" ++ with_commas error_text errors ++ codes "]}"
+
+-- what the accepted writes of a refused request did: it stands before the errors
+abbrev pub so_far_text : SoFar → List ℕ
+so_far_text (so_far.Inserted ids) = inserted_text ids.items
+so_far_text (so_far.Updated matched modified) = codes "{\"matchedCount\":" ++ decimal matched ++ codes ",\"modifiedCount\":" ++ decimal modified ++ codes "}"
+so_far_text (so_far.Deleted deleted) = codes "{\"deletedCount\":" ++ decimal deleted ++ codes "}"
+
+abbrev pub status_text : Option SoFar → List ℕ
+status_text None = codes "{"
+status_text (Some done) = codes "{\"status\":" ++ so_far_text done ++ codes ","
+
+-- ---- replies
+
+abbrev pub reply_text : Reply → List ℕ
+reply_text (Inserted ids) = codes "{\"status\":" ++ inserted_text ids.items ++ codes "}"
+reply_text (Found view) = codes "{\"data\":{\"document\":" ++ view_text view ++ codes "}}"
+reply_text (Counted count more) = codes "{\"status\":{\"count\":" ++ decimal count ++ more_text more ++ codes "}}"
+reply_text (Refused errors done) = status_text done ++ errors_text errors.items
+reply_text (NoMemory accepted) = codes "{" ++ errors_text (out_of_memory accepted ∷ [])
+
+-- the reply refuses by this error alone, and nothing was written before
+abbrev pub IsRefusal : ErrorItem → Reply → Type 0
+IsRefusal error (Refused errors done) = (errors.items ≡ error ∷ []) × (done ≡ None)
+IsRefusal error reply = ⊥

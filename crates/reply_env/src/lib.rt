@@ -1,0 +1,23 @@
+//! Requests, replies and the texts of replies.
+#![tactic(auto)]
+
+mod errors;
+mod fault;
+mod fixed;
+mod print;
+mod reply;
+mod request;
+
+pub use errors::{
+    already_exists, bad_collection_name, bad_field, bad_filter, bad_id_kind, bad_member_name,
+    bad_option, broken_limit, empty_id, many_operands, no_collection, no_command,
+    no_filter_operator, no_keyspace, out_of_memory, store_fault, unread, versions_spent,
+};
+pub use fault::ReplyFault;
+pub use fixed::{FixedText, no_memory_reply};
+pub use print::print_reply;
+pub use reply::{ErrorItem, Reply, SoFar, refusal};
+pub use request::{Place, Request};
+
+#[cfg(test)]
+mod tests;

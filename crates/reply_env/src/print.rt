@@ -1,0 +1,281 @@
+// The text of a reply.
+ghost use Rattle.std.specs.Prelude.{◌≡◌, ◌++◌, ◌∷◌, [], codes, decimal, OnOk, OnErr};
+ghost use Rattle.std.specs.List.{flat_map};
+ghost use Rattle.json_tree.specs.View.{tree};
+ghost use Rattle.json_text.specs.Print.{escaped, string_text, text_of};
+ghost use Rattle.name_tables.specs.Code.{code_text};
+ghost use Rattle.reply_env.specs.Messages.{out_of_memory};
+ghost use Rattle.reply_env.specs.Reply.{with_commas, view_text, more_text, inserted_text, error_text, errors_text, so_far_text, status_text, reply_text};
+
+use crate::fault::ReplyFault;
+use crate::fixed::no_memory_reply;
+use crate::reply::{ErrorItem, Reply, SoFar};
+use json_text::{print_content, print_value};
+use json_tree::{DocId, Value};
+use std::alloc::{AllocError, Global};
+
+// A number in decimal.
+fn print_decimal(n: u64, out: &mut Vec<u8>) -> Result<(), AllocError>
+    ensures { OnOk result (out.new.items ≡ out.old.items ++ decimal n) }
+{
+    let mut buffer = itoa::Buffer::new();
+    out.extend_from_slice(buffer.format(n).as_bytes())
+}
+
+// The canonical text of a value.
+fn print_tree(value: &Value, out: &mut Vec<u8>) -> Result<(), AllocError>
+    ensures { OnOk result (out.new.items ≡ out.old.items ++ text_of (tree value.now)) }
+{
+    match print_value(value, out) {
+        Ok(()) => Ok(()),
+        Err(_) => Err(AllocError),
+    }
+}
+
+fn print_string(text: &str, out: &mut Vec<u8>) -> Result<(), AllocError>
+    ensures { OnOk result (out.new.items ≡ out.old.items ++ string_text text.now) }
+{
+    out.push(b'"')?;
+    print_content(text.as_bytes(), out)?;
+    out.push(b'"')?;
+    Ok(())
+}
+
+fn print_id(id: &DocId, out: &mut Vec<u8>) -> Result<(), AllocError>
+    ensures { OnOk result (out.new.items ≡ out.old.items ++ text_of id.now) }
+{
+    print_tree(id.value(), out)
+}
+
+// The ids, with a comma before each.
+fn print_further_ids(ids: &[DocId], out: &mut Vec<u8>) -> Result<(), AllocError>
+    ensures { OnOk result (out.new.items ≡ out.old.items ++ flat_map (λ id. 44 ∷ text_of id) ids.now) }
+{
+    for id in ids {
+        out.push(b',')?;
+        print_id(id, out)?;
+    }
+    Ok(())
+}
+
+fn print_ids(ids: &[DocId], out: &mut Vec<u8>) -> Result<(), AllocError>
+    ensures { OnOk result (out.new.items ≡ out.old.items ++ with_commas text_of ids.now) }
+{
+    match ids {
+        [] => Ok(()),
+        [first, further @ ..] => {
+            print_id(first, out)?;
+            print_further_ids(further, out)
+        }
+    }
+}
+
+fn print_inserted(ids: &[DocId], out: &mut Vec<u8>) -> Result<(), AllocError>
+    ensures { OnOk result (out.new.items ≡ out.old.items ++ inserted_text ids.now) }
+{
+    out.extend_from_slice(b"{\"insertedIds\":[")?;
+    print_ids(ids, out)?;
+    out.extend_from_slice(b"]}")?;
+    Ok(())
+}
+
+fn print_error(error: &ErrorItem, out: &mut Vec<u8>) -> Result<(), AllocError>
+    ensures { OnOk result (out.new.items ≡ out.old.items ++ error_text error.now) }
+{
+    out.extend_from_slice(b"{\"message\":")?;
+    print_string(error.message.as_str(), out)?;
+    out.extend_from_slice(b",\"errorCode\":")?;
+    print_string(error.code.text(), out)?;
+    out.push(b'}')?;
+    Ok(())
+}
+
+// The errors, with a comma before each.
+fn print_further_errors(errors: &[ErrorItem], out: &mut Vec<u8>) -> Result<(), AllocError>
+    ensures { OnOk result (out.new.items ≡ out.old.items ++ flat_map (λ error. 44 ∷ error_text error) errors.now) }
+{
+    for error in errors {
+        out.push(b',')?;
+        print_error(error, out)?;
+    }
+    Ok(())
+}
+
+fn print_error_list(errors: &[ErrorItem], out: &mut Vec<u8>) -> Result<(), AllocError>
+    ensures { OnOk result (out.new.items ≡ out.old.items ++ with_commas error_text errors.now) }
+{
+    match errors {
+        [] => Ok(()),
+        [first, further @ ..] => {
+            print_error(first, out)?;
+            print_further_errors(further, out)
+        }
+    }
+}
+
+fn print_errors(errors: &[ErrorItem], out: &mut Vec<u8>) -> Result<(), AllocError>
+    ensures { OnOk result (out.new.items ≡ out.old.items ++ errors_text errors.now) }
+{
+    out.extend_from_slice(b"\"errors\":[")?;
+    print_error_list(errors, out)?;
+    out.extend_from_slice(b"]}")?;
+    Ok(())
+}
+
+fn print_updated(matched: u64, modified: u64, out: &mut Vec<u8>) -> Result<(), AllocError>
+    ensures { OnOk result (out.new.items ≡ out.old.items ++ (codes "{\"matchedCount\":" ++ decimal matched ++ codes ",\"modifiedCount\":" ++ decimal modified ++ codes "}")) }
+{
+    out.extend_from_slice(b"{\"matchedCount\":")?;
+    print_decimal(matched, out)?;
+    out.extend_from_slice(b",\"modifiedCount\":")?;
+    print_decimal(modified, out)?;
+    out.push(b'}')?;
+    Ok(())
+}
+
+fn print_deleted(deleted: u64, out: &mut Vec<u8>) -> Result<(), AllocError>
+    ensures { OnOk result (out.new.items ≡ out.old.items ++ (codes "{\"deletedCount\":" ++ decimal deleted ++ codes "}")) }
+{
+    out.extend_from_slice(b"{\"deletedCount\":")?;
+    print_decimal(deleted, out)?;
+    out.push(b'}')?;
+    Ok(())
+}
+
+fn print_so_far(so_far: &SoFar, out: &mut Vec<u8>) -> Result<(), AllocError>
+    ensures { OnOk result (out.new.items ≡ out.old.items ++ so_far_text so_far.now) }
+{
+    match so_far {
+        SoFar::Inserted(ids) => print_inserted(ids.as_slice(), out),
+        SoFar::Updated { matched, modified } => print_updated(*matched, *modified, out),
+        SoFar::Deleted { deleted } => print_deleted(*deleted, out),
+    }
+}
+
+fn print_status(so_far: &Option<SoFar>, out: &mut Vec<u8>) -> Result<(), AllocError>
+    ensures { OnOk result (out.new.items ≡ out.old.items ++ status_text so_far.now) }
+{
+    match so_far {
+        None => {
+            out.push(b'{')?;
+            Ok(())
+        }
+        Some(done) => {
+            out.extend_from_slice(b"{\"status\":")?;
+            print_so_far(done, out)?;
+            out.push(b',')?;
+            Ok(())
+        }
+    }
+}
+
+fn print_view(view: &Option<Value>, out: &mut Vec<u8>) -> Result<(), AllocError>
+    ensures { OnOk result (out.new.items ≡ out.old.items ++ view_text view.now) }
+{
+    match view {
+        None => out.extend_from_slice(b"null"),
+        Some(view) => print_tree(view, out),
+    }
+}
+
+fn print_more(more: bool, out: &mut Vec<u8>) -> Result<(), AllocError>
+    ensures { OnOk result (out.new.items ≡ out.old.items ++ more_text more) }
+{
+    if more {
+        out.extend_from_slice(b",\"moreData\":true")?;
+    }
+    Ok(())
+}
+
+fn print_insertion(ids: &[DocId], out: &mut Vec<u8>) -> Result<(), AllocError>
+    ensures { OnOk result (out.new.items ≡ out.old.items ++ (codes "{\"status\":" ++ inserted_text ids.now ++ codes "}")) }
+{
+    out.extend_from_slice(b"{\"status\":")?;
+    print_inserted(ids, out)?;
+    out.push(b'}')?;
+    Ok(())
+}
+
+fn print_found(view: &Option<Value>, out: &mut Vec<u8>) -> Result<(), AllocError>
+    ensures { OnOk result (out.new.items ≡ out.old.items ++ (codes "{\"data\":{\"document\":" ++ view_text view.now ++ codes "}}")) }
+{
+    out.extend_from_slice(b"{\"data\":{\"document\":")?;
+    print_view(view, out)?;
+    out.extend_from_slice(b"}}")
+}
+
+fn print_count(count: u64, more: bool, out: &mut Vec<u8>) -> Result<(), AllocError>
+    ensures { OnOk result (out.new.items ≡ out.old.items ++ (codes "{\"status\":{\"count\":" ++ decimal count ++ more_text more ++ codes "}}")) }
+{
+    out.extend_from_slice(b"{\"status\":{\"count\":")?;
+    print_decimal(count, out)?;
+    print_more(more, out)?;
+    out.extend_from_slice(b"}}")
+}
+
+fn print_refused(
+    errors: &[ErrorItem],
+    so_far: &Option<SoFar>,
+    out: &mut Vec<u8>,
+) -> Result<(), AllocError>
+    ensures { OnOk result (out.new.items ≡ out.old.items ++ (status_text so_far.now ++ errors_text errors.now)) }
+{
+    print_status(so_far, out)?;
+    print_errors(errors, out)
+}
+
+fn print_no_memory(accepted: u64, out: &mut Vec<u8>) -> Result<(), AllocError>
+    ensures { OnOk result (out.new.items ≡ out.old.items ++ (codes "{" ++ errors_text (out_of_memory accepted ∷ []))) }
+{
+    out.extend_from_slice(no_memory_reply(accepted).bytes())
+}
+
+// Behind what stands there. Where memory runs out, a part of the text may stand there too.
+fn print_behind(reply: &Reply, out: &mut Vec<u8>) -> Result<(), AllocError>
+    ensures { OnOk result (out.new.items ≡ out.old.items ++ reply_text reply.now) }
+{
+    match reply {
+        Reply::Inserted { ids } => print_insertion(ids.as_slice(), out),
+        Reply::Found { view } => print_found(view, out),
+        Reply::Counted { count, more } => print_count(*count, *more, out),
+        Reply::Refused { errors, so_far } => print_refused(errors.as_slice(), so_far, out),
+        Reply::NoMemory { accepted } => print_no_memory(*accepted, out),
+    }
+}
+
+// Into an empty buffer, which is empty again where memory runs out.
+fn print_alone(reply: &Reply, out: &mut Vec<u8>) -> Result<(), AllocError>
+    requires { out.old.items ≡ [] }
+    ensures ok { OnOk result (out.new.items ≡ reply_text reply.now) }
+    ensures err { OnErr result (out.new.items ≡ []) }
+{
+    match print_behind(reply, out) {
+        Ok(()) => Ok(()),
+        Err(_) => {
+            out.clear();
+            Err(AllocError)
+        }
+    }
+}
+
+/// Appends the reply's text. An empty `out` is printed into at once; where something stands in it, the text
+/// is printed apart and copied behind it.
+pub fn print_reply(alloc: Global, reply: &Reply, out: &mut Vec<u8>) -> Result<(), ReplyFault>
+    ensures ok { OnOk result (out.new.items ≡ out.old.items ++ reply_text reply.now) }
+    ensures err { OnErr result (out.new.items ≡ out.old.items) }
+{
+    if out.is_empty() {
+        return match print_alone(reply, out) {
+            Ok(()) => Ok(()),
+            Err(_) => Err(ReplyFault::NoMemory),
+        };
+    }
+    let mut text = Vec::new(alloc);
+    match print_alone(reply, &mut text) {
+        Ok(()) => match out.extend_from_slice(text.as_slice()) {
+            Ok(()) => Ok(()),
+            Err(_) => Err(ReplyFault::NoMemory),
+        },
+        Err(_) => Err(ReplyFault::NoMemory),
+    }
+}

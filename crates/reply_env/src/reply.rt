@@ -1,0 +1,62 @@
+// Replies.
+ghost use Rattle.std.specs.Prelude.{IfOk};
+ghost use Rattle.reply_env.specs.Reply.{IsRefusal};
+
+use crate::fault::ReplyFault;
+use json_tree::{DocId, Text, Value};
+use name_tables::Code;
+use std::alloc::Global;
+
+/// An error of a reply. Its message may hold a client's own text, whatever characters that has: printing escapes it.
+#[derive(Drop)]
+pub struct ErrorItem {
+    pub code: Code,
+    pub message: Text,
+}
+
+/// What the accepted writes of a refused request did.
+#[derive(Drop)]
+pub enum SoFar {
+    Inserted(Vec<DocId>),
+    Updated { matched: u64, modified: u64 },
+    Deleted { deleted: u64 },
+}
+
+/// The reply to a request.
+#[derive(Drop)]
+pub enum Reply {
+    /// The documents with these ids were inserted, in this order.
+    Inserted {
+        ids: Vec<DocId>,
+    },
+    /// The document that was looked for, as it is shown.
+    Found {
+        view: Option<Value>,
+    },
+    /// So many documents matched; `more` says that more did than are counted.
+    Counted {
+        count: u64,
+        more: bool,
+    },
+    /// `so_far` is there exactly where the request made an accepted write.
+    Refused {
+        errors: Vec<ErrorItem>,
+        so_far: Option<SoFar>,
+    },
+    /// Memory ran out after so many accepted writes of the request.
+    NoMemory {
+        accepted: u64,
+    },
+}
+
+/// The reply that refuses by one error, where nothing was written before.
+pub fn refusal(alloc: Global, error: ErrorItem) -> Result<Reply, ReplyFault>
+    ensures { IfOk result (IsRefusal error) }
+{
+    let mut errors = Vec::new(alloc);
+    errors.push(error)?;
+    Ok(Reply::Refused {
+        errors,
+        so_far: None,
+    })
+}

@@ -1,0 +1,190 @@
+use super::*;
+use json_tree::{DocId, Members, Num, Text, Value};
+use name_tables::Code;
+use std::alloc::Global;
+use std::test::Fail;
+
+fn text_value(alloc: Global, text: &str) -> Result<Value, Fail> {
+    Ok(Value::Text(Text::of_str(alloc, text)?))
+}
+
+fn text_id(alloc: Global, text: &str) -> Result<DocId, Fail> {
+    Ok(DocId::of_value(alloc, &text_value(alloc, text)?)?)
+}
+
+fn number_id(alloc: Global, number: i128) -> Result<DocId, Fail> {
+    Ok(DocId::of_value(alloc, &Value::Num(Num::of_parts(number, 0)?))?)
+}
+
+// The document {"_id":"a","n":1.5}.
+fn document(alloc: Global) -> Result<Value, Fail> {
+    let mut members = Members::new(alloc);
+    members.put(Text::of_str(alloc, "_id")?, text_value(alloc, "a")?)?;
+    members.put(
+        Text::of_str(alloc, "n")?,
+        Value::Num(Num::of_parts(15, -1)?),
+    )?;
+    Ok(Value::Object(members))
+}
+
+fn ids(alloc: Global) -> Result<Vec<DocId>, Fail> {
+    let mut ids = Vec::new(alloc);
+    ids.push(text_id(alloc, "a")?)?;
+    ids.push(number_id(alloc, 2)?)?;
+    Ok(ids)
+}
+
+fn errors(alloc: Global) -> Result<Vec<ErrorItem>, Fail> {
+    let mut errors = Vec::new(alloc);
+    errors.push(bad_field(alloc, "\u{1}\"\\/é")?)?;
+    errors.push(no_command(alloc)?)?;
+    Ok(errors)
+}
+
+fn refused(alloc: Global, so_far: Option<SoFar>) -> Result<Reply, Fail> {
+    Ok(Reply::Refused {
+        errors: errors(alloc)?,
+        so_far,
+    })
+}
+
+const TEXTS: [&str; 10] = [
+    r#"{"status":{"insertedIds":["a",2]}}"#,
+    r#"{"data":{"document":{"_id":"a","n":1.5}}}"#,
+    r#"{"data":{"document":null}}"#,
+    r#"{"status":{"count":0}}"#,
+    r#"{"status":{"count":1000,"moreData":true}}"#,
+    r#"{"errors":[{"message":"No command matched","errorCode":"NO_COMMAND_MATCHED"}]}"#,
+    r#"{"status":{"insertedIds":["a",2]},"errors":[{"message":"Command field invalid: \u0001\"\\/é","errorCode":"COMMAND_FIELD_INVALID"},{"message":"No command matched","errorCode":"NO_COMMAND_MATCHED"}]}"#,
+    r#"{"status":{"matchedCount":3,"modifiedCount":2},"errors":[{"message":"Command field invalid: \u0001\"\\/é","errorCode":"COMMAND_FIELD_INVALID"},{"message":"No command matched","errorCode":"NO_COMMAND_MATCHED"}]}"#,
+    r#"{"status":{"deletedCount":18446744073709551615},"errors":[{"message":"Command field invalid: \u0001\"\\/é","errorCode":"COMMAND_FIELD_INVALID"},{"message":"No command matched","errorCode":"NO_COMMAND_MATCHED"}]}"#,
+    r#"{"errors":[{"message":"Out of memory after 18446744073709551615 accepted writes","errorCode":"OUT_OF_MEMORY"}]}"#,
+];
+
+// The replies of these texts.
+fn reply_at(alloc: Global, place: usize) -> Result<Reply, Fail> {
+    match place {
+        0 => Ok(Reply::Inserted { ids: ids(alloc)? }),
+        1 => Ok(Reply::Found {
+            view: Some(document(alloc)?),
+        }),
+        2 => Ok(Reply::Found { view: None }),
+        3 => Ok(Reply::Counted {
+            count: 0,
+            more: false,
+        }),
+        4 => Ok(Reply::Counted {
+            count: 1000,
+            more: true,
+        }),
+        5 => Ok(refusal(alloc, no_command(alloc)?)?),
+        6 => refused(alloc, Some(SoFar::Inserted(ids(alloc)?))),
+        7 => refused(
+            alloc,
+            Some(SoFar::Updated {
+                matched: 3,
+                modified: 2,
+            }),
+        ),
+        8 => refused(alloc, Some(SoFar::Deleted { deleted: u64::MAX })),
+        _ => Ok(Reply::NoMemory { accepted: u64::MAX }),
+    }
+}
+
+// The reply has this text, in an empty buffer and behind what stands in one.
+#[test]
+fn replies_have_their_texts(rt: HostRuntime) -> Result<(), Fail> {
+    let alloc = rt.alloc();
+    for (place, text) in TEXTS.iter().enumerate() {
+        let reply = reply_at(alloc, place)?;
+        let mut out = Vec::new(alloc);
+        print_reply(alloc, &reply, &mut out)?;
+        assert!(rt; out.as_slice() == text.as_bytes(), "{text}");
+        print_reply(alloc, &reply, &mut out)?;
+        assert!(rt; out.as_slice().ends_with(text.as_bytes()), "{text}");
+        assert_eq!(rt; out.len() / 2, text.len());
+    }
+    Ok(())
+}
+
+const MESSAGES: [(Code, &str); 20] = [
+    (Code::InvalidJson, "Body is not JSON at byte 13"),
+    (Code::InvalidJson, "Body is not UTF-8 at byte 0"),
+    (Code::InvalidJson, "Body is nested too deep at byte 32"),
+    (Code::NumberOutOfRange, "Number is out of range at byte 30"),
+    (Code::OutOfMemory, "Out of memory after 0 accepted writes"),
+    (Code::OutOfMemory, "Out of memory after 7 accepted writes"),
+    (Code::KeyspaceNotExist, "Keyspace other does not exist"),
+    (
+        Code::InvalidCollectionName,
+        "Collection name is invalid: 9c",
+    ),
+    (Code::CommandFieldInvalid, "Command field invalid: speed"),
+    (
+        Code::CommandFieldInvalid,
+        "Command field invalid: options.limit",
+    ),
+    (Code::InvalidFilterExpression, "Filter is invalid at "),
+    (
+        Code::InvalidFilterExpression,
+        "Filter has 101 operands, at most 100",
+    ),
+    (
+        Code::UnsupportedFilterOperation,
+        "Filter operator $near is not supported",
+    ),
+    (Code::ShredBadDocidType, "Field _id is of the wrong kind"),
+    (Code::ShredBadDocidEmptyString, "Field _id is an empty text"),
+    (
+        Code::ShredDocKeyNameViolation,
+        "Member name is not allowed: a b",
+    ),
+    (
+        Code::ShredDocLimitViolation,
+        "Document limit 4 is 100, found 101",
+    ),
+    (
+        Code::DocumentAlreadyExists,
+        "Document 2 already exists at version 5",
+    ),
+    (Code::CollectionNotExist, "Collection zz does not exist"),
+    (Code::StoreFault, "Store fault: 0 then 1"),
+];
+
+fn error_at(alloc: Global, place: usize) -> Result<ErrorItem, Fail> {
+    let made = match place {
+        0 => unread(alloc, json_text::TextFault::Syntax { at: 13 }),
+        1 => unread(alloc, json_text::TextFault::NotUtf8 { at: 0 }),
+        2 => unread(alloc, json_text::TextFault::TooDeep { at: 32 }),
+        3 => unread(alloc, json_text::TextFault::Number { at: 30 }),
+        4 => unread(alloc, json_text::TextFault::NoMemory),
+        5 => out_of_memory(alloc, 7),
+        6 => no_keyspace(alloc, "other"),
+        7 => bad_collection_name(alloc, "9c"),
+        8 => bad_field(alloc, "speed"),
+        9 => bad_option(alloc, "limit"),
+        10 => bad_filter(alloc, ""),
+        11 => many_operands(alloc, 101),
+        12 => no_filter_operator(alloc, "$near"),
+        13 => bad_id_kind(alloc),
+        14 => empty_id(alloc),
+        15 => bad_member_name(alloc, "a b"),
+        16 => broken_limit(alloc, 4, 100, 101),
+        17 => already_exists(alloc, &number_id(alloc, 2)?, 5),
+        18 => no_collection(alloc, "zz"),
+        _ => store_fault(alloc, 0, 1),
+    };
+    Ok(made?)
+}
+
+#[test]
+fn errors_have_their_messages(rt: HostRuntime) -> Result<(), Fail> {
+    let alloc = rt.alloc();
+    for (place, (code, message)) in MESSAGES.iter().enumerate() {
+        let error = error_at(alloc, place)?;
+        assert!(rt; error.code == *code, "{message}");
+        assert!(rt; error.message.as_str() == *message, "{message}");
+    }
+    assert!(rt; versions_spent(alloc)?.message.as_str() == "No version numbers are left");
+    Ok(())
+}
