@@ -9,3 +9,4 @@ pub mod Keys
 pub mod Stored
 pub mod Ids
 pub mod Seeking
+pub mod Runs

@@ -77,7 +77,7 @@ back : (b : Bool) → (b ≡ false → ⊥) → b ≡ true
 back true h = refl
 back false h = absurd (h refl)
 
-no_both : (b : Bool) → b ≡ true → b ≡ false → ⊥
+pub no_both : (b : Bool) → b ≡ true → b ≡ false → ⊥
 no_both b p q = let z : true ≡ false = sym p ∙ q in Prim.cc z
 
 -- an entry before one that is before
@@ -253,7 +253,7 @@ not_if true b h = refl
 not_if false b h = absurd (Prim.cc h)
 
 -- an entry before the ends isn't asked for
-not_before : (q : Probe) (e : Entry) → asked_before q e ≡ true → inside q e ≡ false
+pub not_before : (q : Probe) (e : Entry) → asked_before q e ≡ true → inside q e ≡ false
 not_before q e h = inside_is q e ∙ not_if (asked_before q e) (not (asked_after q e)) h
 
 parts_false : (a b : Bool) → (not a && not b) ≡ true → b ≡ false
@@ -299,7 +299,7 @@ pub record Found (es : List Entry) (r : ℕ) (test : Entry → Bool) : Type 0 wh
   pub before : (k : ℕ) (d : Entry) → k < r → test (get_or es k d) ≡ true
   pub after : (k : ℕ) (d : Entry) → r ≤ k → k < length es → test (get_or es k d) ≡ false
 
-any_false : (t : Entry → Bool) (xs : List Entry) → ((k : ℕ) (d : Entry) → k < length xs → t (get_or xs k d) ≡ false) → list_any t xs ≡ false
+pub any_false : (t : Entry → Bool) (xs : List Entry) → ((k : ℕ) (d : Entry) → k < length xs → t (get_or xs k d) ≡ false) → list_any t xs ≡ false
 any_false t [] h = refl
 any_false t (x ∷ xs) h = or_false (t x) (list_any t xs) (h 0 x (omega arith)) (any_false t xs (λ k d l. h (suc k) d (omega arith)))
   where
@@ -319,7 +319,7 @@ any_true t (x ∷ xs) (suc k) d l h = or_right (t x) (list_any t xs) (any_true t
 pub none_asked : (q : Probe) (es : List Entry) (r : ℕ) → Found es r (asked_before q) → length es ≤ r → false ≡ list_any (inside q) es
 none_asked q es r f past = sym (any_false (inside q) es (λ k d l. not_before q (get_or es k d) (f.before k d (omega arith))))
 
-three_ways : (i j : ℕ) → (i < j) ⊎ ((i ≡ j) ⊎ (j < i))
+pub three_ways : (i j : ℕ) → (i < j) ⊎ ((i ≡ j) ⊎ (j < i))
 three_ways zero zero = inr (inl refl)
 three_ways zero (suc j) = inl (omega arith)
 three_ways (suc i) zero = inr (inr (omega arith))

@@ -1,12 +1,14 @@
 // The search for entries, by halves and by borrowed parts.
-ghost use Rattle.std.specs.Prelude.{◌≡◌, ◌≢◌, ◌<◌, ◌≤◌, ℕ, true, false, length, IfSome, IfNone, slice_get, slice_index_or};
+ghost use Rattle.std.specs.Prelude.{◌≡◌, ◌≢◌, ◌<◌, ◌≤◌, ℕ, true, false, length, IfSome, IfNone, slice_get, slice_index_or, take, drop, ◌-◌};
 ghost use Rattle.std.specs.Option.{option_copied};
-ghost use Rattle.std.specs.List.{Contains, list_any};
+ghost use Rattle.std.specs.List.{Contains, list_any, list_all};
 ghost use Rattle.std.specs.List.Sorted.{IsStrictlySortedBy};
 ghost use Rattle.std.specs.Ordering.{is_gt};
 ghost use Rattle.shred_cols.specs.Entry.{path_of, column_of};
 ghost use Rattle.shred_cols.specs.Order.{entry_cmp};
-ghost use Rattle.shred_cols.specs.Probe.{inside};
+ghost use Rattle.shred_cols.specs.Probe.{inside, is_kept_at};
+ghost use Rattle.shred_cols.specs.declared.forms.Kept.{Kept};
+ghost use Rattle.shred_cols.specs.declared.probe.Probe.TheVariants as p;
 ghost use Rattle.shred_cols.specs.Search.{is_before, end_cmp, is_at};
 ghost use Rattle.shred_cols.specs.declared.entry.Entry.{Entry};
 
@@ -77,6 +79,24 @@ pub(crate) fn any_inside(probe: &Probe, entries: &[Entry]) -> bool
         Some(entry) => inside(probe, entry),
         None => false,
     }
+}
+
+/// The run of the entries that say which values are kept at a path.
+pub(crate) fn kept_at<'a>(entries: &'a [Entry], path: &str) -> &'a [Entry]
+    requires { IsStrictlySortedBy entry_cmp entries.now }
+    ensures asked { (k : Kept) → list_any (inside (p.Has path.now k)) result.now ≡ list_any (inside (p.Has path.now k)) entries.now }
+    ensures only { list_all (is_kept_at path.now) result.now ≡ true }
+{
+    let low = seek(entries, 3, path, None, &[]);
+    let high = seek(entries, 3, path, Some(2), &[]);
+    part(entries, low, high)
+}
+
+fn part(entries: &[Entry], low: usize, high: usize) -> &[Entry]
+    requires { (low ≤ high) × (high ≤ length entries.now) }
+    ensures { result.now ≡ take (high - low) (drop low entries.now) }
+{
+    &entries[low..high]
 }
 
 /// An entry of a column and a path.
