@@ -2,6 +2,7 @@
 ghost use Rattle.std.specs.Prelude.{◌≡◌, Some, IfOk, IfErr};
 ghost use Rattle.json_tree.specs.Doc.{IsDocument, id_in};
 ghost use Rattle.json_tree.specs.Id.{IsId};
+ghost use Rattle.json_tree.specs.Writable.{IsWritable};
 ghost use Rattle.shred_cols.specs.Columns.{IsColumns};
 ghost use Rattle.shred_cols.specs.Row.{Version, id_of};
 ghost use Rattle.shred_cols.specs.declared.fault.ShredFault.TheVariants.{NoMemory};
@@ -68,7 +69,9 @@ impl Row {
     pub fn doc(&self) -> &Doc
         ensures value { result.now ≡ self.now.doc }
         ensures document { IsDocument self.now.doc }
+        ensures writable { IsWritable self.now.doc }
     {
+        let _value = self.doc.value();
         &self.doc
     }
 
