@@ -1,5 +1,5 @@
-use Rattle.std.proofs.Common.{sym, ◌∙◌}
-use Rattle.shred_cols.proofs.Seeking.{Found, asked_before, found_for, one_asked, none_asked, got, past_all}
+use Rattle.std.proofs.Common.{◌∙◌}
+use Rattle.shred_cols.proofs.Seeking.{found_for, one_asked, none_asked, got, past_all}
 use Rattle.shred_cols.proofs.search.any_inside.Goals as goal
 
 pub returns-in-Some : goal.returns-in-Some
