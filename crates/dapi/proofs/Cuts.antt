@@ -1,6 +1,10 @@
 -- Bytes before a separator, and behind it.
-use Rattle.std.proofs.Common.{◌≡◌, ◌≢◌, ◌<◌, ◌+◌, ◌≤◌, ◌++◌, ◌∷◌, [], ℕ, zero, suc, List, Bool, true, false, not, ◌&&◌, ◌==◌, IsTrue, length, take, drop, get_or, refl, sym, ◌∙◌, ap, arith}
+use Rattle.std.proofs.Common.{◌≡◌, ◌≢◌, ◌<◌, ◌+◌, ◌-◌, ◌≤◌, length-drop, ◌++◌, ◌∷◌, [], ℕ, zero, suc, List, Bool, true, false, not, ◌&&◌, ◌==◌, IsTrue, length, take, drop, get_or, refl, sym, ◌∙◌, ap, arith}
 use Rattle.std.proofs.lemmas.Bool.Decides.{nat_tests}
+use Rattle.std.proofs.lemmas.List.{take-append-drop, drop_more, get_or-drop}
+use Rattle.std.proofs.Math.Seq.{take-add}
+use Rattle.dapi.specs.Lines.{IsLineLen}
+use Rattle.std.proofs.lemmas.List.Folds.{list_all-append}
 use Rattle.memchr.specs.Find.{Nowhere, Passes, is_byte}
 use Rattle.dapi.specs.Separated.{is_free_of}
 
@@ -63,6 +67,16 @@ take_rest n [] h = take_none n [] refl
 take_rest zero (x ∷ xs) h = absurd (omega arith)
 take_rest (suc n) (x ∷ xs) h = ap (λ ys. x ∷ ys) (take_rest n xs (omega arith))
 
+-- bytes without a separator and then bytes without it
+pub free_joined : (b : ℕ) (xs ys : List ℕ) → IsTrue (is_free_of b xs) → IsTrue (is_free_of b ys) → IsTrue (is_free_of b (xs ++ ys))
+free_joined b xs ys p q = list_all-append (λ x. not (x == b)) xs ys ∙ joined_true (is_free_of b xs) (is_free_of b ys) p q
+
+-- bytes are what stands before a place, its byte, and all behind it
+pub cut_here : (bytes : List ℕ) (at b : ℕ) → at < length bytes → (get_or bytes at 0 == b) ≡ true → bytes ≡ take at bytes ++ b ∷ drop (at + 1) bytes
+cut_here bytes at b h e =
+    let same : get_or bytes at 0 ≡ b = grind (arith, nat_tests) in
+    sym (take-append-drop at bytes) ∙ ap (λ xs. take at bytes ++ xs) (drop_more bytes at 0 h ∙ (λ i. same i ∷ drop (at + 1) bytes))
+
 -- bytes are what stands before a place, its byte, and what stands behind it
 pub cut_at : (bytes : List ℕ) (at n : ℕ) (b : ℕ) → at < length bytes → (get_or bytes at 0 == b) ≡ true → length bytes ≤ n + (at + 1) → bytes ≡ take at bytes ++ b ∷ take n (drop (at + 1) bytes)
 cut_at [] at n b h e m = absurd (omega arith)
@@ -74,3 +88,21 @@ cut_at (x ∷ xs) (suc at) n b h e m =
   where
     suc_place : (at : ℕ) → suc (at + 1) ≡ suc at + 1
     suc_place at = omega arith
+
+-- the first line ends at the first LF behind bytes that are known to hold none
+pub line_ends : (bytes hay : List ℕ) (s p : ℕ) → hay ≡ drop s bytes → s ≤ length bytes → IsTrue (is_free_of 10 (take s bytes)) → p < length hay
+    → Nowhere (Passes (is_byte 10) hay) 0 p → (get_or hay p 0 == 10) ≡ true → IsLineLen bytes (s + p)
+line_ends bytes hay s p is within free here nowhere found =
+    let below : s + p < length bytes = omega (arith, ap length is, length-drop s bytes) in
+    record {
+      within = below;
+      free = ap (is_free_of 10) (take-add s p bytes) ∙ free_joined 10 (take s bytes) (take p (drop s bytes)) free (ap (λ xs. is_free_of 10 (take p xs)) (sym is) ∙ free_before 10 hay p nowhere);
+      text = cut_here bytes (s + p) 10 below (ap (λ x. x == 10) (sym (ap (λ xs. get_or xs p 0) is ∙ get_or-drop s bytes p 0)) ∙ found);
+    }
+
+pub no_line_ends : (bytes hay : List ℕ) (s : ℕ) → hay ≡ drop s bytes → IsTrue (is_free_of 10 (take s bytes)) → Nowhere (Passes (is_byte 10) hay) 0 (length hay) → IsTrue (is_free_of 10 bytes)
+no_line_ends bytes hay s is free nowhere =
+    ap (is_free_of 10) (sym (take-append-drop s bytes)) ∙ free_joined 10 (take s bytes) (drop s bytes) free (ap (is_free_of 10) (sym is) ∙ free_all 10 hay nowhere)
+
+pub whole_rest : (s : ℕ) (bytes : List ℕ) → take (length bytes - s) (drop s bytes) ≡ drop s bytes
+whole_rest s bytes = take_rest (length bytes - s) (drop s bytes) (omega (arith, length-drop s bytes))

@@ -8,7 +8,7 @@ use Rattle.dapi.specs.Separated.{is_free_of}
 use Rattle.dapi.specs.Lines.{ended_lines, Splits}
 use Rattle.dapi.specs.Request.{IsRightLine, AreRightLines}
 use Rattle.dapi.specs.Run.{ServesLine, Serves}
-use Rattle.dapi.proofs.Cuts.{joined_true}
+use Rattle.dapi.proofs.Cuts.{joined_true, free_joined}
 
 -- one line more
 pub Serves-line : (collection : List ℕ) (before : List Row) (lines : List (List ℕ)) (output : List ℕ) (between : List Row) (line more : List ℕ) (after : List Row)
@@ -41,34 +41,18 @@ pub ended-append : (xs ys : List (List ℕ)) → ended_lines (xs ++ ys) ≡ ende
 ended-append [] ys = refl
 ended-append (x ∷ xs) ys = ap (λ zs. (x ++ 10 ∷ []) ++ zs) (ended-append xs ys) ∙ sym (append_assoc (x ++ 10 ∷ []) (ended_lines xs) (ended_lines ys))
 
-pub free_both : (b : ℕ) (xs ys : List ℕ) → IsTrue (is_free_of b xs) → IsTrue (is_free_of b ys) → IsTrue (is_free_of b (xs ++ ys))
-free_both b xs ys p q = list_all-append _ xs ys ∙ joined_true (is_free_of b xs) (is_free_of b ys) p q
-
 pub all_free : (xs ys : List (List ℕ)) → IsTrue (list_all (is_free_of 10) xs) → IsTrue (list_all (is_free_of 10) ys) → IsTrue (list_all (is_free_of 10) (xs ++ ys))
 all_free xs ys p q = list_all-append (is_free_of 10) xs ys ∙ joined_true (list_all (is_free_of 10) xs) (list_all (is_free_of 10) ys) p q
 
--- a rest is ended
-pub Splits-line : (bytes : List ℕ) (lines : List (List ℕ)) (rest end : List ℕ) → Splits bytes lines rest → IsTrue (is_free_of 10 end)
-    → Splits (bytes ++ (end ++ 10 ∷ [])) (lines ++ (rest ++ end) ∷ []) []
-Splits-line bytes lines rest end s free = record {
-  text =
-      ap (λ xs. xs ++ (end ++ 10 ∷ [])) s.text
-      ∙ regroup (ended_lines lines) rest end
-      ∙ ap (λ xs. xs ++ []) (sym (ended-append lines ((rest ++ end) ∷ [])));
-  each = all_free lines ((rest ++ end) ∷ []) s.each (joined_true (is_free_of 10 (rest ++ end)) true (free_both 10 rest end s.last free) refl);
-  last = refl;
-}
+-- one line more, and what stands behind it
+pub ended_more : (lines : List (List ℕ)) (line rest : List ℕ) → ended_lines (lines ++ line ∷ []) ++ rest ≡ ended_lines lines ++ (line ++ 10 ∷ rest)
+ended_more lines line rest = ap (λ xs. xs ++ rest) (ended-append lines (line ∷ [])) ∙ regroup (ended_lines lines) line rest
   where
-    regroup : (a b c : List ℕ) → (a ++ b) ++ (c ++ 10 ∷ []) ≡ (a ++ (((b ++ c) ++ 10 ∷ []) ++ [])) ++ []
+    regroup : (a b c : List ℕ) → (a ++ ((b ++ 10 ∷ []) ++ [])) ++ c ≡ a ++ (b ++ 10 ∷ c)
     regroup a b c = simp (append_assoc, append-nil)
 
--- a rest grows
-pub Splits-rest : (bytes : List ℕ) (lines : List (List ℕ)) (rest more : List ℕ) → Splits bytes lines rest → IsTrue (is_free_of 10 more) → Splits (bytes ++ more) lines (rest ++ more)
-Splits-rest bytes lines rest more s free = record {
-  text = ap (λ xs. xs ++ more) s.text ∙ append_assoc (ended_lines lines) rest more;
-  each = s.each;
-  last = free_both 10 rest more s.last free;
-}
+pub each_more : (lines : List (List ℕ)) (line : List ℕ) → IsTrue (list_all (is_free_of 10) lines) → IsTrue (is_free_of 10 line) → IsTrue (list_all (is_free_of 10) (lines ++ line ∷ []))
+each_more lines line each free = all_free lines (line ∷ []) each (joined_true (is_free_of 10 line) true free refl)
 
 -- bytes behind a rest are split with it
 pub Splits-append : (bytes : List ℕ) (lines : List (List ℕ)) (rest more : List ℕ) (others : List (List ℕ)) (last : List ℕ) → Splits bytes lines rest → Splits (rest ++ more) others last

@@ -1,5 +1,5 @@
 -- A reply may always be want of memory instead, with the writes of its request that were accepted.
-use Rattle.std.proofs.Common.{◌≡◌, ℕ, List, Bool, true, false, cond, refl, inl, inr}
+use Rattle.std.proofs.Common.{◌≡◌, ◌++◌, ◌∷◌, [], ℕ, List, Bool, true, false, cond, refl, inl, inr}
 use Rattle.store_core.specs.declared.row.Row.{Row}
 use Rattle.dapi.specs.Request.{Request}
 use Rattle.dapi.specs.Reply.{accepted_of, reply_text}
@@ -17,7 +17,7 @@ wanting collection before request (Refused (AlreadyThere id tx)) after a = inl (
 wanting collection before request (NoMemory accepted) after a = a
 
 -- the reply that was printed, whole or wanting
-pub printed : (collection : List ℕ) (before : List Row) (request : Request) (reply : Reply) (after : List Row) (whole : Bool) (text : List ℕ) → Answers collection before request reply after
-    → text ≡ reply_text (cond whole reply (NoMemory (accepted_of reply))) → (given : Reply) × Answers collection before request given after × (text ≡ reply_text given)
-printed collection before request reply after true text a e = (reply, a, e)
-printed collection before request reply after false text a e = (NoMemory (accepted_of reply), wanting collection before request reply after a, e)
+pub printed : (collection : List ℕ) (before : List Row) (request : Request) (reply : Reply) (after : List Row) (whole : Bool) (out_before out : List ℕ) → Answers collection before request reply after
+    → out ≡ out_before ++ (reply_text (cond whole reply (NoMemory (accepted_of reply))) ++ 10 ∷ []) → (given : Reply) × Answers collection before request given after × (out ≡ out_before ++ (reply_text given ++ 10 ∷ []))
+printed collection before request reply after true out_before out a e = (reply, a, e)
+printed collection before request reply after false out_before out a e = (NoMemory (accepted_of reply), wanting collection before request reply after a, e)

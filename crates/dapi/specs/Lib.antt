@@ -7,5 +7,7 @@ pub mod Document
 pub mod Reply
 pub mod Answer
 pub mod Run
+pub mod Ends
 pub mod Piece
+pub mod Sent
 pub mod Note

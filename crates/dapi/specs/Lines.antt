@@ -1,5 +1,5 @@
 -- An input as lines. A line ends by LF, or by the end of the input.
-use Rattle.std.specs.Prelude.{◌≡◌, ℕ, List, [], ◌∷◌, ◌++◌, IsTrue}
+use Rattle.std.specs.Prelude.{◌≡◌, ℕ, ◌+◌, ◌<◌, List, [], ◌∷◌, ◌++◌, length, take, drop, IsTrue}
 use Rattle.std.specs.List.{flat_map, list_all}
 use Rattle.dapi.specs.Separated.{is_free_of}
 
@@ -24,3 +24,15 @@ pub record HasLines (input : List ℕ) (lines : List (List ℕ)) : Type 0 where
   pub rest : List ℕ
   pub split : Splits input ended rest
   pub all : lines ≡ ended ++ last_line rest
+
+-- the bytes begin with these lines, an LF behind each
+pub record BeginsWith (bytes : List ℕ) (lines : List (List ℕ)) : Type 0 where
+  pub rest : List ℕ
+  pub text : bytes ≡ ended_lines lines ++ rest
+  pub each : IsTrue (list_all (is_free_of 10) lines)
+
+-- the first line has this length, and an LF stands behind it
+pub record IsLineLen (bytes : List ℕ) (len : ℕ) : Type 0 where
+  pub within : len < length bytes
+  pub free : IsTrue (is_free_of 10 (take len bytes))
+  pub text : bytes ≡ take len bytes ++ 10 ∷ drop (len + 1) bytes

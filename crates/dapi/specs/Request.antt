@@ -48,3 +48,7 @@ IsRightLine line = IsTrue (is_skipped line) ⊎ ((request : Request) × Asks lin
 abbrev pub AreRightLines : List (List ℕ) → Type 0
 AreRightLines [] = Unit {0}
 AreRightLines (line ∷ lines) = IsRightLine line × AreRightLines lines
+
+-- no line that begins so is of the right form
+abbrev pub IsHopeless : List ℕ → Type 0
+IsHopeless part = (more : List ℕ) → IsRightLine (part ++ more) → ⊥

@@ -1,5 +1,5 @@
 //! The answer to a request.
-ghost use Rattle.std.specs.Prelude.{◌≡◌, ◌≢◌, ◌++◌, ◌↔◌, ℕ, List, Option, Some, None, codes, IsTrue, IfSome, IfNone, IfOk, OnOk, if◌then◌else◌};
+ghost use Rattle.std.specs.Prelude.{◌≡◌, ◌≢◌, ◌++◌, ◌∷◌, ◌↔◌, ℕ, List, [], Option, Some, None, codes, IsTrue, IfSome, IfNone, IfOk, OnOk, OnErr, if◌then◌else◌};
 ghost use Rattle.json_tree.specs.Tree.{Tree};
 ghost use Rattle.json_tree.specs.View.{tree};
 ghost use Rattle.json_tree.specs.Doc.{IsDocument, id_in};
@@ -191,33 +191,57 @@ fn accepted_of(reply: &Reply) -> u64
     }
 }
 
-// Prints a reply alone. Where memory runs out for it, the reply says so instead.
-fn reply_alone(alloc: Global, reply: &Reply, text: &mut Vec<u8>) -> Result<bool, AllocError>
-    ensures { IfOk result (λ whole. text.new.items ≡ reply_text (if whole then reply.now else Reply.NoMemory (accepted_of reply.now))) }
+// Appends a reply's text. Where memory runs out for it, the reply says so instead: then false.
+fn add_reply(alloc: Global, reply: &Reply, out: &mut Vec<u8>) -> Result<bool, AllocError>
+    ensures added { IfOk result (λ whole. out.new.items ≡ out.old.items ++ reply_text (if whole then reply.now else Reply.NoMemory (accepted_of reply.now))) }
+    ensures kept { OnErr result (out.new.items ≡ out.old.items) }
 {
-    text.clear();
-    if print_reply(alloc, reply, text).is_ok() {
+    if print_reply(alloc, reply, out).is_ok() {
         return Ok(true);
     }
-    text.clear();
     let wanting = Reply::NoMemory {
         accepted: accepted_of(reply),
     };
-    print_reply(alloc, &wanting, text)?;
-    Ok(false)
+    match print_reply(alloc, &wanting, out) {
+        Ok(()) => Ok(false),
+        Err(e) => Err(e),
+    }
 }
 
-/// Answers a request: `text` is its reply then. The error is want of memory for the reply itself.
+// Appends a reply and an LF.
+fn add_line(alloc: Global, reply: &Reply, out: &mut Vec<u8>) -> Result<bool, AllocError>
+    ensures added { IfOk result (λ whole. out.new.items ≡ out.old.items ++ (reply_text (if whole then reply.now else Reply.NoMemory (accepted_of reply.now)) ++ 10 ∷ [])) }
+    ensures kept { OnErr result (out.new.items ≡ out.old.items) }
+{
+    let before = out.len();
+    let whole = match add_reply(alloc, reply, out) {
+        Ok(whole) => whole,
+        Err(e) => return Err(e),
+    };
+    match out.push(b'\n') {
+        Ok(()) => Ok(whole),
+        Err(_) => {
+            out.truncate(before);
+            Err(AllocError)
+        }
+    }
+}
+
+/// Answers a request: its reply and an LF are appended. The error is want of memory for the reply itself; then `out`
+/// is as it was.
 pub fn answer(
     alloc: Global,
     collection: &[u8],
     request: Asked<'_>,
     store: &mut Store,
-    text: &mut Vec<u8>,
+    out: &mut Vec<u8>,
 ) -> Result<(), AllocError>
-    ensures { OnOk result ((reply : Reply) × Answers collection.now store.old (request_of request.entry) reply store.new × (text.new.items ≡ reply_text reply)) }
+    ensures answered { OnOk result ((reply : Reply) × Answers collection.now store.old (request_of request.entry) reply store.new × (out.new.items ≡ out.old.items ++ (reply_text reply ++ 10 ∷ []))) }
+    ensures kept { OnErr result (out.new.items ≡ out.old.items) }
 {
     let reply = decide(alloc, collection, request, store);
-    reply_alone(alloc, &reply, text)?;
-    Ok(())
+    match add_line(alloc, &reply, out) {
+        Ok(_) => Ok(()),
+        Err(e) => Err(e),
+    }
 }

@@ -3,6 +3,7 @@
 
 mod answer;
 mod bytes;
+mod lines;
 mod note;
 mod reply;
 mod request;
@@ -14,26 +15,35 @@ mod top;
 mod words;
 
 use outside_io::{RealSink, RealSource};
-use std::alloc::AllocError;
+use std::env;
+use std::io::ErrorKind;
 use std::process::ExitCode;
-use std::{env, io};
+use words::WordFault;
 
-// The words after the program's name.
-fn words_of(rt: HostRuntime) -> io::Result<Vec<String>> {
+// The words after the program's name. One that isn't UTF-8 is of no command.
+fn words_of(rt: HostRuntime) -> Result<Vec<String>, WordFault> {
+    let all = match env::args(&rt) {
+        Ok(all) => all,
+        Err(error) if error.kind() == ErrorKind::InvalidData => return Err(WordFault::Usage),
+        Err(_) => return Err(WordFault::NoMemory),
+    };
     let mut words = Vec::new(rt.alloc());
-    for word in env::args(&rt)?.skip(1) {
-        words.push(word)?;
+    for word in all.skip(1) {
+        let Ok(()) = words.push(word) else {
+            return Err(WordFault::NoMemory);
+        };
     }
     Ok(words)
 }
 
 fn main(rt: HostRuntime) -> ExitCode {
-    let Ok(words) = words_of(rt) else {
-        return ExitCode::from(9);
+    let mut notes = RealSink::new(rt.stderr());
+    let words = match words_of(rt) {
+        Ok(words) => words,
+        Err(fault) => return ExitCode::from(top::refuse_words(&mut notes, fault)),
     };
     let mut source = RealSource::new(rt.stdin());
     let mut sink = RealSink::new(rt.stdout());
-    let mut notes = RealSink::new(rt.stderr());
     let status = top::dapi(
         rt.alloc(),
         words.as_slice(),

@@ -1,97 +1,90 @@
 //! Exit statuses and notes.
-ghost use Rattle.std.specs.Prelude.{◌≡◌, ◌⊎◌, ◌<◌, ◌≤◌, ◌++◌, ℕ, OnOk, OnErr, length, take};
-ghost use Rattle.outside_io.specs.Causes.{Rose};
-ghost use Rattle.outside_io.specs.Told.{taken_then};
-ghost use Rattle.dapi.specs.Note.{status_of, note_of, usage_note, line_note, TakesFront, IsNoted};
+ghost use Rattle.std.specs.Prelude.{◌≡◌, ◌≤◌, length};
+ghost use Rattle.dapi.specs.Note.{status_of, note_of, line_note, word_status, word_note, IsNoted};
 
-use crate::serve::RunEnd;
-use outside_io::{IoFault, Sink, write_all};
+use crate::run::RunHow;
+use crate::words::WordFault;
+use arrayvec::ArrayString;
+use outside_io::{Sink, write_all};
+
+// The longest note has 64 bytes, and a line's number 20.
+const LONGEST: usize = 80;
 
 /// The exit status of a run.
-pub fn status_of(end: RunEnd) -> u8
-    ensures { result ≡ status_of end }
+pub fn status_of(how: RunHow) -> u8
+    ensures { result ≡ status_of how }
 {
-    match end {
-        RunEnd::Done => 0,
-        RunEnd::ReadFault => 2,
-        RunEnd::WriteFault => 3,
-        RunEnd::TooLong => 5,
-        RunEnd::WrongLine { .. } => 6,
-        RunEnd::NoMemory => 9,
+    match how {
+        RunHow::Done => 0,
+        RunHow::ReadFault { .. } => 2,
+        RunHow::WriteFault { .. } => 3,
+        RunHow::TooLong => 5,
+        RunHow::WrongLine { .. } => 6,
+        RunHow::NoMemory => 9,
     }
 }
 
-// Writes a piece. At a fault some of its bytes may have been taken.
-fn write_piece<E: Sink>(notes: &mut E, piece: &[u8]) -> Result<(), IoFault>
-    ensures all { OnOk result (E.taken notes.new ≡ taken_then (E.taken notes.old) piece.now) }
-    ensures some { OnErr result ((n : ℕ) × (n < length piece.now) × (E.taken notes.new ≡ taken_then (E.taken notes.old) (take n piece.now))) }
-    ensures fault { OnErr result (Rose (E.writes_failed notes.old) (E.writes_failed notes.new) ⊎ Rose (E.writes_ended notes.old) (E.writes_ended notes.new)) }
-    ensures failed_grows { E.writes_failed notes.old ≤ E.writes_failed notes.new }
-    ensures ended_grows { E.writes_ended notes.old ≤ E.writes_ended notes.new }
+/// The exit status where the words couldn't be used.
+pub fn word_status(fault: WordFault) -> u8
+    ensures { result ≡ word_status fault }
 {
-    write_all(notes, piece)?;
-    Ok(())
+    match fault {
+        WordFault::Usage => 1,
+        WordFault::NoMemory => 9,
+    }
 }
 
-// Writes a note. What of it can't be written is dropped.
-fn write_note<E: Sink>(notes: &mut E, note: &[u8])
-    ensures { IsNoted (E.taken notes.old) (E.taken notes.new) note.now (Rose (E.writes_failed notes.old) (E.writes_failed notes.new) ⊎ Rose (E.writes_ended notes.old) (E.writes_ended notes.new)) }
+fn text(note: &str) -> ArrayString<LONGEST>
+    requires { length note.now ≤ 80 }
+    ensures { result.bytes ≡ note.now }
 {
-    let Ok(()) = write_piece(notes, note) else {
-        return;
-    };
+    let mut text = ArrayString::new();
+    text.push_str(note);
+    text
 }
 
-// Writes two pieces, one behind the other. At a fault some of their bytes may have been taken.
-fn write_two<E: Sink>(notes: &mut E, first: &[u8], second: &[u8]) -> Result<(), IoFault>
-    ensures all { OnOk result (E.taken notes.new ≡ taken_then (E.taken notes.old) (first.now ++ second.now)) }
-    ensures some { OnErr result (TakesFront (E.taken notes.old) (E.taken notes.new) (first.now ++ second.now)) }
-    ensures fault { OnErr result (Rose (E.writes_failed notes.old) (E.writes_failed notes.new) ⊎ Rose (E.writes_ended notes.old) (E.writes_ended notes.new)) }
-    ensures failed_grows { E.writes_failed notes.old ≤ E.writes_failed notes.new }
-    ensures ended_grows { E.writes_ended notes.old ≤ E.writes_ended notes.new }
-{
-    write_all(notes, first)?;
-    write_all(notes, second)?;
-    Ok(())
-}
-
-// Writes the note on a line that isn't a request, in pieces, so that it needs no memory.
-fn write_wrong_line<E: Sink>(notes: &mut E, line: u64)
-    ensures { IsNoted (E.taken notes.old) (E.taken notes.new) (line_note line) (Rose (E.writes_failed notes.old) (E.writes_failed notes.new) ⊎ Rose (E.writes_ended notes.old) (E.writes_ended notes.new)) }
+// The note on a line that isn't a request.
+fn line_note(line: u64) -> ArrayString<LONGEST>
+    ensures { result.bytes ≡ line_note line }
 {
     let mut buffer = itoa::Buffer::new();
-    let Ok(()) = write_piece(notes, b"line ") else {
-        return;
-    };
-    let Ok(()) = write_two(
-        notes,
-        buffer.format(line).as_bytes(),
-        b" is not a request\n",
-    ) else {
-        return;
-    };
+    let mut note = text("line ");
+    note.push_str(buffer.format(line));
+    note.push_str(" is not a request\n");
+    note
 }
 
-/// Writes the note on how a run ended.
-pub fn write_end<E: Sink>(notes: &mut E, end: RunEnd)
-    ensures { IsNoted (E.taken notes.old) (E.taken notes.new) (note_of end) (Rose (E.writes_failed notes.old) (E.writes_failed notes.new) ⊎ Rose (E.writes_ended notes.old) (E.writes_ended notes.new)) }
+/// The note on how a run ended. It takes no memory.
+pub fn note_of(how: RunHow) -> ArrayString<LONGEST>
+    ensures { result.bytes ≡ note_of how }
 {
-    match end {
-        RunEnd::Done => {}
-        RunEnd::ReadFault => write_note(notes, b"read fault\n"),
-        RunEnd::WriteFault => write_note(notes, b"write fault\n"),
-        RunEnd::TooLong => write_note(notes, b"input too long\n"),
-        RunEnd::WrongLine { line } => write_wrong_line(notes, line),
-        RunEnd::NoMemory => write_note(notes, b"no memory\n"),
+    match how {
+        RunHow::Done => text(""),
+        RunHow::ReadFault { .. } => text("read fault\n"),
+        RunHow::WriteFault { .. } => text("write fault\n"),
+        RunHow::TooLong => text("input too long\n"),
+        RunHow::WrongLine { line } => line_note(line),
+        RunHow::NoMemory => text("no memory\n"),
     }
 }
 
-/// Writes the note on how the program is called.
-pub fn write_usage<E: Sink>(notes: &mut E)
-    ensures { IsNoted (E.taken notes.old) (E.taken notes.new) usage_note (Rose (E.writes_failed notes.old) (E.writes_failed notes.new) ⊎ Rose (E.writes_ended notes.old) (E.writes_ended notes.new)) }
+/// The note where the words couldn't be used.
+pub fn word_note(fault: WordFault) -> ArrayString<LONGEST>
+    ensures { result.bytes ≡ word_note fault }
 {
-    write_note(
-        notes,
-        b"usage: dapi run|mix|gen N SEED|check|serve --listen=A [options]\n",
-    );
+    match fault {
+        WordFault::Usage => text(USAGE),
+        WordFault::NoMemory => text("no memory\n"),
+    }
+}
+
+const USAGE: &str = "usage: dapi run|mix|gen N SEED|check|serve --listen=A [options]\n";
+
+/// Writes a note. What of it can't be written is dropped.
+pub fn write_note<E: Sink>(notes: &mut E, note: &str)
+    ensures { IsNoted (E.writing notes.old) (E.writing notes.new) note.now }
+{
+    let Ok(()) = write_all(notes, note.as_bytes()) else {
+        return;
+    };
 }

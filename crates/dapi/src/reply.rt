@@ -1,5 +1,5 @@
 //! Replies and their text.
-ghost use Rattle.std.specs.Prelude.{◌≡◌, ◌++◌, OnOk, IfOk, decimal, codes};
+ghost use Rattle.std.specs.Prelude.{◌≡◌, ◌++◌, OnOk, OnErr, IfOk, decimal, codes};
 ghost use Rattle.std.specs.List.{flat_map};
 ghost use Rattle.json_text.specs.Print.{escaped, string_text, text_of};
 ghost use Rattle.name_tables.specs.Code.{code_text};
@@ -250,8 +250,7 @@ fn print_inserted(alloc: Global, id: &DocId, out: &mut Vec<u8>) -> Result<(), Al
     Ok(())
 }
 
-/// Appends the reply's text. Where memory runs out a part of it may stand there.
-pub fn print_reply(alloc: Global, reply: &Reply, out: &mut Vec<u8>) -> Result<(), AllocError>
+fn print_parts(alloc: Global, reply: &Reply, out: &mut Vec<u8>) -> Result<(), AllocError>
     ensures { OnOk result (out.new.items ≡ out.old.items ++ reply_text reply.now) }
 {
     match reply {
@@ -260,4 +259,16 @@ pub fn print_reply(alloc: Global, reply: &Reply, out: &mut Vec<u8>) -> Result<()
         Reply::NoMemory { accepted } => print_no_memory(*accepted, out)?,
     }
     Ok(())
+}
+
+/// Appends the reply's text. Where memory runs out, `out` is as it was.
+pub fn print_reply(alloc: Global, reply: &Reply, out: &mut Vec<u8>) -> Result<(), AllocError>
+    ensures printed { OnOk result (out.new.items ≡ out.old.items ++ reply_text reply.now) }
+    ensures kept { OnErr result (out.new.items ≡ out.old.items) }
+{
+    let mut text = Vec::new(alloc);
+    match print_parts(alloc, reply, &mut text) {
+        Ok(()) => out.extend_from_slice(text.as_slice()),
+        Err(e) => Err(e),
+    }
 }

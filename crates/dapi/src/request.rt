@@ -1,7 +1,8 @@
 //! Requests, as lines ask for them.
-ghost use Rattle.std.specs.Prelude.{◌≡◌, ◌++◌, ◌≤◌, ℕ, List, Option, codes, length, IsTrue, MatchOption, IfSome, None, option_map};
+ghost use Rattle.std.specs.Prelude.{◌≡◌, ◌++◌, ◌∷◌, ◌≤◌, ◌<◌, ℕ, List, Option, codes, length, IsTrue, MatchOption, IfSome, None, option_map};
 ghost use Rattle.std.specs.List.{list_all};
-ghost use Rattle.dapi.specs.Request.{Request, Asks, is_part_byte, is_part, is_skipped, is_collection_part, collection_path};
+ghost use Rattle.dapi.specs.Request.{Request, Asks, IsHopeless, is_part_byte, is_part, is_skipped, is_collection_part, collection_path};
+ghost use Rattle.dapi.specs.Separated.{is_free_of};
 ghost use Rattle.dapi.specs.Asked.{request_of, IsPlace};
 
 use crate::bytes::cut;
@@ -109,4 +110,22 @@ pub fn request_of(line: &[u8]) -> Option<Asked<'_>>
         collection: place.collection,
         body,
     })
+}
+
+/// Whether a line that begins with these bytes can't be right, as far as that is looked for: its body is too long
+/// already, or it begins like no path and is as long.
+pub fn is_hopeless(part: &[u8]) -> bool
+    ensures hopeless { IsTrue result → IsHopeless part.now }
+    ensures long { (path body : List ℕ) → part.now ≡ path ++ 32 ∷ body → IsTrue (is_free_of 32 path) → 20000000 < length body → IsTrue result }
+{
+    if part.len() <= MAX_BODY {
+        return false;
+    }
+    let Some(_) = after_version(part) else {
+        return true;
+    };
+    match cut(part, b' ') {
+        Some((_, body)) => body.len() > MAX_BODY,
+        None => false,
+    }
 }

@@ -1,15 +1,34 @@
 //! Lines that are served as their bytes come.
-ghost use Rattle.std.specs.Prelude.{◌≡◌, ◌++◌, ◌+◌, ◌^◌, ◌<◌, ◌∷◌, ℕ, List, [], length, Err, IsTrue, IfErr, OnOk};
-ghost use Rattle.dapi.specs.Separated.{is_free_of};
+ghost use Rattle.std.specs.Prelude.{◌≡◌, ◌++◌, ◌+◌, ◌^◌, ◌<◌, ℕ, List, [], length, Err, IfErr, OnOk, OnErr};
 ghost use Rattle.dapi.specs.Request.{IsRightLine};
 ghost use Rattle.dapi.specs.Run.{ServesLine};
-ghost use Rattle.dapi.specs.Piece.{EndsLine, TakesPiece, StopsAt, TakesLast, StopsLast};
+ghost use Rattle.dapi.specs.Piece.{fed, TakesLines, StopsAt, TakesLast, StopsLast};
 
 use crate::answer::answer;
-use crate::bytes::cut;
-use crate::request::{is_skipped, request_of};
+use crate::lines::Lines;
+use crate::request::{is_hopeless, is_skipped, request_of};
 use std::alloc::Global;
 use store_core::Store;
+
+/// How a run ended.
+#[derive(Clone, Copy, Debug, PartialEq, Eq)]
+pub enum RunHow {
+    /// The input was read to its end, and every reply was written.
+    Done,
+    /// A read failed; these are the source's counts of faults round it.
+    ReadFault { before: u64, after: u64 },
+    /// A write failed, or nothing more was taken; these are the sink's counts of faults round it.
+    WriteFault {
+        before: u64,
+        after: u64,
+        nothing: bool,
+    },
+    /// As many bytes were read as a run reads.
+    TooLong,
+    /// The line of this number, from 1, isn't of its form.
+    WrongLine { line: u64 },
+    NoMemory,
+}
 
 /// Why a line isn't served.
 #[derive(Clone, Copy, Debug, PartialEq, Eq)]
@@ -19,49 +38,45 @@ pub enum LineStop {
     NoMemory,
 }
 
-/// Why a piece of the input isn't served.
+/// Why no further line is served.
 #[derive(Clone, Copy, Debug, PartialEq, Eq)]
-pub enum PieceStop {
+pub enum Stop {
     /// The line of this number, from 1, isn't of its form.
     Wrong { line: u64 },
     NoMemory,
 }
 
-/// What stands between two pieces of the input: the accepted documents, the line that is unfinished, the replies that
-/// aren't written yet, and the number of lines so far.
+/// What stands between two pieces of the input: the bytes that wait for the end of their line, the replies that aren't
+/// written yet, and the number of lines so far.
 #[derive(Drop)]
 pub struct Run {
-    pub store: Store,
-    pub pending: Vec<u8>,
+    pub lines: Lines,
     pub out: Vec<u8>,
-    pub lines: u64,
-    pub reply: Vec<u8>,
+    pub count: u64,
 }
 
 /// The start of a run.
 pub fn start(alloc: Global) -> Run
-    ensures { (result.store ≡ []) × (result.pending.items ≡ []) × (result.out.items ≡ []) × (result.lines ≡ 0) }
+    ensures { (result.lines ≡ []) × (result.out.items ≡ []) × (result.count ≡ 0) }
 {
     Run {
-        store: Store::new(alloc),
-        pending: Vec::new(alloc),
+        lines: Lines::new(alloc),
         out: Vec::new(alloc),
-        lines: 0,
-        reply: Vec::new(alloc),
+        count: 0,
     }
 }
 
-// Serves one line, without its LF.
-fn take_line(
+// Serves one line, without its LF, and appends its reply.
+fn serve_line(
     alloc: Global,
     collection: &[u8],
     line: &[u8],
     store: &mut Store,
-    reply: &mut Vec<u8>,
     out: &mut Vec<u8>,
 ) -> Result<(), LineStop>
     ensures served { OnOk result ((output : List ℕ) × ServesLine collection.now store.old line.now output store.new × (out.new.items ≡ out.old.items ++ output)) }
     ensures wrong { result ≡ Err LineStop.Wrong → IsRightLine line.now → ⊥ }
+    ensures kept { OnErr result (out.new.items ≡ out.old.items) }
 {
     if is_skipped(line) {
         return Ok(());
@@ -69,89 +84,77 @@ fn take_line(
     let Some(request) = request_of(line) else {
         return Err(LineStop::Wrong);
     };
-    let Ok(()) = answer(alloc, collection, request, store, reply) else {
-        return Err(LineStop::NoMemory);
-    };
-    let Ok(()) = reply.push(b'\n') else {
-        return Err(LineStop::NoMemory);
-    };
-    let Ok(()) = out.extend_from_slice(reply.as_slice()) else {
-        return Err(LineStop::NoMemory);
-    };
-    Ok(())
-}
-
-// Serves the line whose front is pending and which ends with these bytes, before its LF.
-fn take_end(alloc: Global, collection: &[u8], end: &[u8], run: &mut Run) -> Result<(), LineStop>
-    requires { run.old.lines + 1 < 2 ^ 64 }
-    ensures served { OnOk result (EndsLine collection.now run.old end.now run.new) }
-    ensures wrong { result ≡ Err LineStop.Wrong → IsRightLine (run.old.pending.items ++ end.now) → ⊥ }
-    ensures counted { run.new.lines ≡ run.old.lines + 1 }
-{
-    run.lines += 1;
-    if run.pending.is_empty() {
-        return take_line(
-            alloc,
-            collection,
-            end,
-            &mut run.store,
-            &mut run.reply,
-            &mut run.out,
-        );
+    match answer(alloc, collection, request, store, out) {
+        Ok(()) => Ok(()),
+        Err(_) => Err(LineStop::NoMemory),
     }
-    let Ok(()) = run.pending.extend_from_slice(end) else {
-        return Err(LineStop::NoMemory);
-    };
-    take_line(
-        alloc,
-        collection,
-        run.pending.as_slice(),
-        &mut run.store,
-        &mut run.reply,
-        &mut run.out,
-    )?;
-    run.pending.clear();
+}
+
+// Serves the lines that ended.
+fn serve_lines(
+    alloc: Global,
+    collection: &[u8],
+    store: &mut Store,
+    run: &mut Run,
+) -> Result<(), Stop>
+    requires room { run.old.count + length run.old.lines + 1 < 2 ^ 64 }
+    ensures taken { OnOk result (TakesLines collection.now store.old run.old store.new run.new) }
+    ensures stopped { IfErr result (StopsAt collection.now store.old run.old run.new) }
+{
+    'lines: while let Some(len) = run.lines.line_len() {
+        run.count += 1;
+        match serve_line(alloc, collection, run.lines.front(len), store, &mut run.out) {
+            Ok(()) => run.lines.pass(len),
+            Err(LineStop::Wrong) => return Err(Stop::Wrong { line: run.count }),
+            Err(LineStop::NoMemory) => return Err(Stop::NoMemory),
+        }
+    }
+    if is_hopeless(run.lines.part()) {
+        return Err(Stop::Wrong {
+            line: run.count + 1,
+        });
+    }
     Ok(())
 }
 
-/// Serves the lines that end in the next piece of the input, and keeps what stands behind the last of them.
+/// Takes the next piece of the input, and serves the lines that end in it. A line that can't be right any more ends
+/// the run, before its end is read.
 pub fn take_piece(
     alloc: Global,
     collection: &[u8],
     piece: &[u8],
+    store: &mut Store,
     run: &mut Run,
-) -> Result<(), PieceStop>
-    requires free { IsTrue (is_free_of 10 run.old.pending.items) }
-    requires room { run.old.lines + length piece.now < 2 ^ 64 }
-    ensures taken { OnOk result (TakesPiece collection.now run.old piece.now run.new) }
-    ensures stopped { IfErr result (StopsAt run.old piece.now) }
+) -> Result<(), Stop>
+    requires room { run.old.count + length run.old.lines + length piece.now + 1 < 2 ^ 64 }
+    ensures taken { OnOk result (TakesLines collection.now store.old (fed run.old piece.now) store.new run.new) }
+    ensures stopped { IfErr result (StopsAt collection.now store.old (fed run.old piece.now) run.new) }
 {
-    let mut rest = piece;
-    'lines: while let Some((end, after)) = cut(rest, b'\n') {
-        match take_end(alloc, collection, end, run) {
-            Ok(()) => rest = after,
-            Err(LineStop::Wrong) => return Err(PieceStop::Wrong { line: run.lines }),
-            Err(LineStop::NoMemory) => return Err(PieceStop::NoMemory),
-        }
-    }
-    match run.pending.extend_from_slice(rest) {
-        Ok(()) => Ok(()),
-        Err(_) => Err(PieceStop::NoMemory),
+    match run.lines.feed(piece) {
+        Ok(()) => serve_lines(alloc, collection, store, run),
+        Err(_) => Err(Stop::NoMemory),
     }
 }
 
-/// Serves the line that is pending at the input's end, if there is one.
-pub fn take_last(alloc: Global, collection: &[u8], run: &mut Run) -> Result<(), PieceStop>
-    requires { run.old.lines + 1 < 2 ^ 64 }
-    ensures taken { OnOk result (TakesLast collection.now run.old run.new) }
-    ensures stopped { IfErr result (StopsLast run.old) }
+/// Serves what waits at the input's end, if anything does.
+pub fn take_last(
+    alloc: Global,
+    collection: &[u8],
+    store: &mut Store,
+    run: &mut Run,
+) -> Result<(), Stop>
+    requires { run.old.count + 1 < 2 ^ 64 }
+    ensures taken { OnOk result (TakesLast collection.now store.old run.old run.new) }
+    ensures stopped { IfErr result (StopsLast run.old run.new) }
 {
-    if run.pending.is_empty() {
+    let part = run.lines.part();
+    if part.is_empty() {
         return Ok(());
     }
-    match take_end(alloc, collection, b"", run) {
+    run.count += 1;
+    match serve_line(alloc, collection, part, store, &mut run.out) {
         Ok(()) => Ok(()),
-        Err(LineStop::Wrong) => Err(PieceStop::Wrong { line: run.lines }),
-        Err(LineStop::NoMemory) => Err(PieceStop::NoMemory),
+        Err(LineStop::Wrong) => Err(Stop::Wrong { line: run.count }),
+        Err(LineStop::NoMemory) => Err(Stop::NoMemory),
     }
 }

@@ -1,5 +1,8 @@
-use crate::top::dapi;
-use outside_io::{MemSink, MemSource};
+//! The top call on streams in memory.
+use crate::top::{dapi, refuse_words};
+use crate::words::WordFault;
+use outside_io::{MemSink, MemSource, Source};
+use std::alloc::AllocError;
 use std::process::Abort;
 use std::test::Fail;
 
@@ -173,50 +176,139 @@ fn other_words_are_usage(rt: HostRuntime) -> Result<(), Fail> {
     )
 }
 
-#[test]
-fn faults_end_the_run(rt: HostRuntime) -> Result<(), Fail> {
-    let call = Call {
-        input: LINE,
-        ..ON_C
-    };
-    let first_read = Call {
-        reads_fail: 1,
-        ..call
-    };
-    calls(&rt, first_read, 2, "", "read fault\n")?;
-    let second_read = Call {
-        reads_fail: 2,
-        ..call
-    };
-    calls(&rt, second_read, 2, REPLY, "read fault\n")?;
-    let first_write = Call {
-        writes_fail: 1,
-        ..call
-    };
-    calls(&rt, first_write, 3, "", "write fault\n")?;
-    let full = Call { room: 9, ..call };
-    calls(&rt, full, 3, "{\"status\"", "write fault\n")
+const TAKEN: &str = "{\"errors\":[{\"message\":\"Document \\\"a\\\" already exists at version 1\",\"errorCode\":\"DOCUMENT_ALREADY_EXISTS\"}]}\n";
+
+// The replies to so many of the lines that are alike, as `three_lines` gives them.
+fn replies<R: AllocGlobal>(rt: &R, count: usize) -> Result<String, AllocError> {
+    let mut replies = String::new(rt.alloc());
+    for i in 0..count {
+        replies.push_str(if i == 0 { REPLY } else { TAKEN })?;
+    }
+    Ok(replies)
+}
+
+// Three lines, and then this one.
+fn three_lines<R: AllocGlobal>(rt: &R, last: &str) -> Result<String, AllocError> {
+    let mut input = String::new(rt.alloc());
+    for _ in 0..3 {
+        input.push_str(LINE)?;
+    }
+    input.push_str(last)?;
+    Ok(input)
 }
 
 #[test]
-fn a_wrong_line_ends_the_run(rt: HostRuntime) -> Result<(), Fail> {
-    let wrong = "hello|/v1/ks/c|/v1/ks/c/d {}|/v1//c {}|/v1/ {}|/v2/ks/c {}| /v1/ks/c {}|\r\r";
-    for input in wrong.split('|') {
-        calls(
-            &rt,
-            Call { input, ..ON_C },
-            6,
-            "",
-            "line 1 is not a request\n",
-        )?;
+fn a_wrong_line_leaves_the_replies_before_it(rt: HostRuntime) -> Result<(), Fail> {
+    let output = replies(&rt, 3)?;
+    let wrong = "hello\n|hello|/v1/ks/c\n|/v1/ks/c/d {}|/v1//c {}|/v1/ {}|/v2/ks/c {}| /v1/ks/c {}|\r\r";
+    for last in wrong.split('|') {
+        let input = three_lines(&rt, last)?;
+        for piece in [1, 2, 47, 48, 49, 96, 143, 144, 145, 1000] {
+            let call = Call {
+                input: input.as_str(),
+                piece,
+                ..ON_C
+            };
+            calls(&rt, call, 6, output.as_str(), "line 4 is not a request\n")?;
+        }
     }
-    let mut input = String::from_str(rt.alloc(), LINE)?;
-    input.push_str("\nhello\n")?;
-    input.push_str(LINE)?;
-    let third = Call {
-        input: input.as_str(),
-        piece: 1,
-        ..ON_C
-    };
-    calls(&rt, third, 6, REPLY, "line 3 is not a request\n")
+    Ok(())
+}
+
+// Pieces, the read that fails, and how many lines were whole before it. A line has 48 bytes.
+const READS: [(usize, u64, usize); 11] = [
+    (1000, 1, 0),
+    (1000, 2, 3),
+    (48, 1, 0),
+    (48, 2, 1),
+    (48, 3, 2),
+    (48, 5, 3),
+    (47, 2, 0),
+    (49, 2, 1),
+    (95, 3, 3),
+    (96, 2, 2),
+    (1, 97, 2),
+];
+
+#[test]
+fn a_failed_read_leaves_the_replies_so_far(rt: HostRuntime) -> Result<(), Fail> {
+    let input = three_lines(&rt, "/v1/ks/c {")?;
+    for (piece, reads_fail, whole) in READS {
+        let output = replies(&rt, whole)?;
+        let call = Call {
+            input: input.as_str(),
+            piece,
+            reads_fail,
+            ..ON_C
+        };
+        calls(&rt, call, 2, output.as_str(), "read fault\n")?;
+    }
+    Ok(())
+}
+
+#[test]
+fn a_full_sink_has_a_front_of_the_replies(rt: HostRuntime) -> Result<(), Fail> {
+    let input = three_lines(&rt, "hello\n")?;
+    let all = replies(&rt, 3)?;
+    for piece in [1, 47, 48, 49, 1000] {
+        for room in [0, 9, 34, 35, 100] {
+            let front = String::from_str(rt.alloc(), all.as_str().get(..room).unwrap_or(""))?;
+            let call = Call {
+                input: input.as_str(),
+                piece,
+                room,
+                ..ON_C
+            };
+            calls(&rt, call, 3, front.as_str(), "write fault\n")?;
+        }
+        let failing = Call {
+            input: input.as_str(),
+            piece,
+            writes_fail: 1,
+            ..ON_C
+        };
+        calls(&rt, failing, 3, "", "write fault\n")?;
+    }
+    Ok(())
+}
+
+// A line with a body of so many spaces, behind one that is answered.
+fn long_line<R: AllocGlobal>(rt: &R, spaces: usize) -> Result<Vec<u8>, AllocError> {
+    let mut input = LINE.as_bytes().to_vec(rt.alloc())?;
+    input.extend_from_slice(b"/v1/ks/c ")?;
+    let body = vec![in rt.alloc(); b' '; spaces]?;
+    input.extend_from_slice(body.as_slice())?;
+    Ok(input)
+}
+
+#[test]
+fn a_body_is_refused_as_soon_as_it_is_too_long(rt: HostRuntime) -> Result<(), Fail> {
+    let alloc = rt.alloc();
+    let mut words = Vec::new(alloc);
+    words.push(String::from_str(alloc, "run")?)?;
+    words.push(String::from_str(alloc, "--collection=c")?)?;
+    let input = long_line(&rt, 20_000_001)?;
+    let mut source = MemSource::new(input, 60_000, Vec::new(alloc));
+    let mut sink = MemSink::new(alloc, 1000, Vec::new(alloc))?;
+    let mut notes = MemSink::new(alloc, 100, Vec::new(alloc))?;
+    assert_eq!(rt; dapi(alloc, words.as_slice(), &mut source, &mut sink, &mut notes), 6);
+    assert_eq!(rt; sink.bytes(), REPLY.as_bytes());
+    assert_eq!(rt; notes.bytes(), b"line 2 is not a request\n".as_slice());
+    Ok(())
+}
+
+#[test]
+fn usage_reads_and_writes_nothing(rt: HostRuntime) -> Result<(), Fail> {
+    let alloc = rt.alloc();
+    let mut source = MemSource::new(LINE.as_bytes().to_vec(alloc)?, 100, Vec::new(alloc));
+    let mut sink = MemSink::new(alloc, 100, Vec::new(alloc))?;
+    let mut notes = MemSink::new(alloc, 100, Vec::new(alloc))?;
+    assert_eq!(rt; dapi(alloc, &[], &mut source, &mut sink, &mut notes), 1);
+    assert_eq!(rt; refuse_words(&mut notes, WordFault::NoMemory), 9);
+    let mut buffer = [0u8; 100];
+    assert_eq!(rt; source.read(&mut buffer), Ok(48));
+    let mut both = String::from_str(alloc, USAGE)?;
+    both.push_str("no memory\n")?;
+    assert_eq!(rt; notes.bytes(), both.as_bytes());
+    Ok(())
 }

@@ -1,6 +1,15 @@
+//! The words of a command line.
 ghost use Rattle.std.specs.Prelude.{◌≡◌, ℕ, List, ◌++◌, codes, map, MatchOption, string_bytes, IsTrue};
 ghost use Rattle.std.specs.List.{list_all};
 ghost use Rattle.dapi.specs.Words.{is_name_byte, is_name_letter, is_collection_name, RunsOn};
+
+/// Why the words of a command line can't be used.
+#[derive(Clone, Copy, Debug, PartialEq, Eq)]
+pub enum WordFault {
+    /// They aren't of the grammar.
+    Usage,
+    NoMemory,
+}
 
 fn is_name_byte(b: u8) -> bool
     ensures { result ≡ is_name_byte b }

@@ -1,3 +1,4 @@
+//! The calls of objects in memory, of which chosen ones fail.
 ghost use Rattle.std.specs.Prelude.{◌≡◌, ℕ, ◌+◌, ◌^◌, ◌<◌, ◌↔◌, IsTrue, Contains, nat_eq, if◌then◌else◌};
 ghost use Rattle.std.specs.List.{list_any};
 ghost use Rattle.outside_io.specs.Calls.{FailsNext, failed_calls, after_call};

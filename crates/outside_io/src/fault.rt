@@ -1,3 +1,4 @@
+//! Why a call moved no byte.
 use thiserror::Error;
 
 /// Why a source or a sink moved no byte.

@@ -1,3 +1,4 @@
+//! A sink in memory, whose bytes are told.
 ghost use Rattle.std.specs.Prelude.{◌≡◌, ℕ, ◌+◌, ◌-◌, ◌<◌, ◌≤◌, ◌↔◌, ◌++◌, List, [], length, take, min, Option, Some, Result, Err, IsOk, IfOk, OnErr};
 ghost use Rattle.outside_io.specs.Calls.{FailsNext, failed_calls, after_call};
 ghost use Rattle.outside_io.specs.Causes.{Rose};
@@ -68,11 +69,7 @@ impl MemSink {
 }
 
 impl Sink for MemSink {
-    ghost taken = { λ s. Some s.taken };
-
-    ghost writes_failed = { λ s. failed_calls s.calls };
-
-    ghost writes_ended = { λ s. s.ended };
+    ghost writing = { λ s. record { taken = Some s.taken; failed = failed_calls s.calls; ended = s.ended } };
 
     fn write(&mut self, piece: &[u8]) -> Result<usize, IoFault>
         ensures count { IfOk result (λ n. IsCount n (length piece.now)) }

@@ -1,3 +1,4 @@
+//! A source in memory, whose bytes are told.
 ghost use Rattle.std.specs.Prelude.{◌≡◌, ◌≢◌, ℕ, ◌+◌, ◌-◌, ◌<◌, ◌≤◌, ◌↔◌, ◌++◌, List, [], length, take, drop, min, Option, Some, Result, Err, IfOk, OnErr};
 ghost use Rattle.std.specs.Option.{ForSome};
 ghost use Rattle.outside_io.specs.Calls.{FailsNext, failed_calls, after_call};
@@ -56,11 +57,7 @@ impl MemSource {
 }
 
 impl Source for MemSource {
-    ghost left = { λ s. Some s.left };
-
-    ghost reads_failed = { λ s. failed_calls s.calls };
-
-    ghost given = { λ s. Some s.given };
+    ghost reading = { λ s. record { given = Some s.given; left = Some s.left; failed = failed_calls s.calls } };
 
     fn read(&mut self, into: &mut [u8]) -> Result<usize, IoFault>
         ensures count { IfOk result (λ n. IsCount n (length into.old)) }

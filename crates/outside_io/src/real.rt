@@ -1,3 +1,4 @@
+//! Sources and sinks over std's readers and writers. They tell no bytes.
 ghost use Rattle.std.specs.Prelude.{◌≡◌, ◌≤◌, None, Err, length, take, IfOk, OnErr};
 ghost use Rattle.std.specs.Io.{ReadsAtMost, WritesAtMost};
 ghost use Rattle.std.specs.Io.KnownBytes.{Keeps, Appends, Consumes, IsAtEnd, ReadConsumes};
@@ -32,9 +33,7 @@ impl<R: Read + Drop> RealSource<R> {
 }
 
 impl<R: Read + Drop> Source for RealSource<R> {
-    ghost left = { λ s. None };
-
-    ghost reads_failed = { λ s. s.faults };
+    ghost reading = { λ s. record { given = None; left = None; failed = s.faults } };
 
     fn read(&mut self, into: &mut [u8]) -> Result<usize, IoFault>
         ensures count { IfOk result (λ n. IsCount n (length into.old)) }
@@ -95,11 +94,7 @@ impl<W: Write + Drop> RealSink<W> {
 }
 
 impl<W: Write + Drop> Sink for RealSink<W> {
-    ghost taken = { λ s. None };
-
-    ghost writes_failed = { λ s. s.faults };
-
-    ghost writes_ended = { λ s. s.ended };
+    ghost writing = { λ s. record { taken = None; failed = s.faults; ended = s.ended } };
 
     fn write(&mut self, piece: &[u8]) -> Result<usize, IoFault>
         ensures count { IfOk result (λ n. IsCount n (length piece.now)) }

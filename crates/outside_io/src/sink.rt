@@ -1,19 +1,15 @@
+//! Sinks: streams of bytes that are written.
 ghost use Rattle.std.specs.Prelude.{◌≡◌, ℕ, ◌≤◌, ◌<◌, List, length, take, Option, Result, Err, IfOk, OnOk, OnErr};
 ghost use Rattle.outside_io.specs.Causes.{Rose};
-ghost use Rattle.outside_io.specs.Told.{taken_then, IsCount, Reading, no_reading};
+ghost use Rattle.outside_io.specs.Told.{IsCount, Reading, no_reading, Writing, Takes, CountsGrow};
 
 use crate::fault::IoFault;
 
 /// A stream of bytes that is written.
 pub trait Sink {
-    /// The bytes taken, where they are told.
-    ghost taken: { Self → Option (List ℕ) };
-
-    /// The count of the faults of its writes.
-    ghost writes_failed: { Self → ℕ };
-
-    /// The count of its answers `Ended`, which no code needs to know.
-    ghost writes_ended: { Self → ℕ };
+    /// What it shows: the bytes taken, where they are told, the count of the faults of its writes, and the count of
+    /// its answers `Ended`, which no code needs to know.
+    ghost writing: { Self → Writing };
 
     /// The half of it that is read, if it has one, which a write leaves as it is.
     ghost reading: { Self → Reading } = { λ _. no_reading };
@@ -23,33 +19,31 @@ pub trait Sink {
     fn write(&mut self, piece: &[u8]) -> Result<usize, IoFault>
         ensures count { IfOk result (λ n. IsCount n (length piece.now)) }
         ensures appended { IfOk result (λ n.
-            taken self.new ≡ taken_then (taken self.old) (take n piece.now)) }
-        ensures kept { OnErr result (taken self.new ≡ taken self.old) }
+            Takes (writing self.old) (take n piece.now) (writing self.new)) }
+        ensures kept { OnErr result ((writing self.new).taken ≡ (writing self.old).taken) }
         ensures failed { result ≡ Err IoFault.Failed
-            → Rose (writes_failed self.old) (writes_failed self.new) }
+            → Rose (writing self.old).failed (writing self.new).failed }
         ensures ended { result ≡ Err IoFault.Ended
-            → Rose (writes_ended self.old) (writes_ended self.new) }
-        ensures failed_grows { writes_failed self.old ≤ writes_failed self.new }
-        ensures ended_grows { writes_ended self.old ≤ writes_ended self.new }
+            → Rose (writing self.old).ended (writing self.new).ended }
+        ensures grows { CountsGrow (writing self.old) (writing self.new) }
         ensures leaves { reading self.new ≡ reading self.old };
 
     /// The count of the faults of its writes. A count that has reached 2^64 - 1 stays there.
     fn write_faults(&self) -> u64
-        ensures { result ≡ writes_failed self.now };
+        ensures { result ≡ (writing self.now).failed };
 }
 
 /// Writes the whole piece, in as many writes as it takes. At a fault some of its bytes may have been taken, but not
 /// all of them.
 pub fn write_all<W: Sink>(sink: &mut W, piece: &[u8]) -> Result<(), IoFault>
-    ensures all { OnOk result (W.taken sink.new ≡ taken_then (W.taken sink.old) piece.now) }
+    ensures all { OnOk result (Takes (W.writing sink.old) piece.now (W.writing sink.new)) }
     ensures some { OnErr result ((n : ℕ) × (n < length piece.now)
-        × (W.taken sink.new ≡ taken_then (W.taken sink.old) (take n piece.now))) }
+        × Takes (W.writing sink.old) (take n piece.now) (W.writing sink.new)) }
     ensures failed { result ≡ Err IoFault.Failed
-        → Rose (W.writes_failed sink.old) (W.writes_failed sink.new) }
+        → Rose (W.writing sink.old).failed (W.writing sink.new).failed }
     ensures ended { result ≡ Err IoFault.Ended
-        → Rose (W.writes_ended sink.old) (W.writes_ended sink.new) }
-    ensures failed_grows { W.writes_failed sink.old ≤ W.writes_failed sink.new }
-    ensures ended_grows { W.writes_ended sink.old ≤ W.writes_ended sink.new }
+        → Rose (W.writing sink.old).ended (W.writing sink.new).ended }
+    ensures grows { CountsGrow (W.writing sink.old) (W.writing sink.new) }
     ensures leaves { W.reading sink.new ≡ W.reading sink.old }
 {
     let mut taken = 0;

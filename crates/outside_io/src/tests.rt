@@ -1,3 +1,4 @@
+//! Calls that are made one after another, with faults in mid-stream.
 use super::*;
 use std::alloc::AllocError;
 use std::io;
