@@ -4,6 +4,7 @@ pub mod WordLists
 pub mod Texts
 pub mod Commands
 pub mod Wanting
+pub mod One
 pub mod Served
 pub mod Waits
 pub mod HasLines

@@ -65,3 +65,9 @@ Answers collection before request (Refused NoCommand) after = ((value : Tree) ×
 Answers collection before request (NoMemory accepted) after =
     EndsWanting accepted before (λ rows. (document : Tree) × (id : Tree) × AsksToInsert collection request document × Accepts before document id rows) after
 Answers collection before request reply after = (document : Tree) × AsksToInsert collection request document × Settles before document reply after
+
+-- memory ran out
+abbrev pub IsWanting : Reply → Type 0
+IsWanting (Inserted id) = ⊥
+IsWanting (Refused why) = ⊥
+IsWanting (NoMemory accepted) = Unit {0}

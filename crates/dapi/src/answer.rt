@@ -1,18 +1,21 @@
 //! The answer to a request.
-ghost use Rattle.std.specs.Prelude.{◌≡◌, ◌≢◌, ◌++◌, ◌∷◌, ◌↔◌, ℕ, List, [], Option, Some, None, codes, IsTrue, IfSome, IfNone, IfOk, OnOk, OnErr, if◌then◌else◌};
+ghost use Rattle.std.specs.Prelude.{◌≡◌, ◌≢◌, ◌⊎◌, ◌++◌, ◌∷◌, ◌↔◌, ℕ, List, [], Option, Some, None, codes, IsTrue, IfSome, IfNone, IfOk, OnOk, OnErr, if◌then◌else◌};
 ghost use Rattle.json_tree.specs.Tree.{Tree};
 ghost use Rattle.json_tree.specs.View.{tree};
 ghost use Rattle.json_tree.specs.Doc.{IsDocument, id_in};
 ghost use Rattle.dapi.specs.Asked.{request_of};
 ghost use Rattle.dapi.specs.Document.{unfit, id_unfit};
 ghost use Rattle.dapi.specs.Reply.{reply_text, accepted_of};
-ghost use Rattle.dapi.specs.Answer.{object_of_one, insertion_of, IsObject, Settles, Answers};
+ghost use Rattle.store_core.specs.Rows.{IsHistory};
+ghost use Rattle.store_core.specs.declared.row.Row.{Row};
+ghost use Rattle.dapi.specs.Request.{Request};
+ghost use Rattle.dapi.specs.Answer.{object_of_one, insertion_of, IsObject, IsWanting, Settles, Answers};
 ghost use Rattle.dapi.specs.declared.reply.Reply.{Reply};
 
 use crate::reply::{Refusal, Reply, Unfit, print_reply};
 use crate::request::Asked;
 use doc_limits::{check, names_fault};
-use json_text::{TextFault, one_value, read_value};
+use json_text::{TextFault, no_fault_where_read, one_fault, one_value, read_value};
 use json_tree::{Doc, TreeFault, Value};
 use std::alloc::{AllocError, Global};
 use store_core::{FirstOutcome, Store};
@@ -244,4 +247,15 @@ pub fn answer(
         Ok(_) => Ok(()),
         Err(e) => Err(e),
     }
+}
+
+/// Where the rows are those of a store, a request has one answer, and leaves the rows in one way; want of memory apart.
+pub fn one_answer()
+    ensures { (collection : List ℕ) (before : List Row) (request : Request) (r s : Reply) (a b : List Row) → IsHistory before
+        → Answers collection before request r a → Answers collection before request s b
+        → IsWanting r ⊎ (IsWanting s ⊎ ((r ≡ s) × (a ≡ b))) }
+{
+    one_value();
+    one_fault();
+    no_fault_where_read();
 }
