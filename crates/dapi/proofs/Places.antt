@@ -86,7 +86,7 @@ body_fits part path body more request text free asks =
     let front = request.keyspace ++ collection_path request.collection in
     let line : part ++ more ≡ (47 ∷ 118 ∷ 49 ∷ 47 ∷ front) ++ 32 ∷ request.body = asks.text in
     let cut : path ++ 32 ∷ (body ++ more) ≡ (47 ∷ 118 ∷ 49 ∷ 47 ∷ front) ++ 32 ∷ request.body =
-        sym (ap (λ xs. xs ++ more) text ∙ append_assoc path (32 ∷ body) more) ∙ line in
+    sym (ap (λ xs. xs ++ more) text ∙ append_assoc path (32 ∷ body) more) ∙ line in
     let free_front : IsTrue (is_free_of 32 (47 ∷ 118 ∷ 49 ∷ 47 ∷ front)) = path_free request.keyspace request.collection asks.keyspace asks.collection in
     let parts = cut_once 32 path (47 ∷ 118 ∷ 49 ∷ 47 ∷ front) (body ++ more) request.body free free_front cut in
     let most : length request.body ≤ 20000000 = asks.body in

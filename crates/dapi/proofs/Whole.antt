@@ -218,17 +218,20 @@ module _ (collection : List ℕ) (from to : Reading) (before now : Writing) (row
       answered = (h.rows_new, Serves-append collection [] at.lines at.output rows (last_line run.lines) h.output h.rows_new at.served h.served);
       written = Takes-append before now after at.output h.output at.written h.written;
     }
-    ends_finish after left grows (WriteFault b a nothing) h = (fault_earlier before now after b a nothing grows h.0, record {
-      input = at.input;
-      lines = at.lines ++ last_line run.lines;
-      output = at.output ++ h.1.output;
-      count = length at.output + h.1.count;
-      read = read_all;
-      first = inr (at_end, all_of_them);
-      answered = (h.1.rows_new, Serves-append collection [] at.lines at.output rows (last_line run.lines) h.1.output h.1.rows_new at.served h.1.served);
-      cut = omega (arith, length-append at.output h.1.output, h.1.cut);
-      written = takes_cut before now after at.output h.1.output h.1.count at.written h.1.written;
-    })
+    ends_finish after left grows (WriteFault b a nothing) h = (
+      fault_earlier before now after b a nothing grows h.0,
+      record {
+        input = at.input;
+        lines = at.lines ++ last_line run.lines;
+        output = at.output ++ h.1.output;
+        count = length at.output + h.1.count;
+        read = read_all;
+        first = inr (at_end, all_of_them);
+        answered = (h.1.rows_new, Serves-append collection [] at.lines at.output rows (last_line run.lines) h.1.output h.1.rows_new at.served h.1.served);
+        cut = omega (arith, length-append at.output h.1.output, h.1.cut);
+        written = takes_cut before now after at.output h.1.output h.1.count at.written h.1.written;
+      },
+    )
     ends_finish after left grows (WrongLine number) w = last_wrong after number w
     ends_finish after left grows NoMemory h = record {
       input = at.input;

@@ -16,7 +16,10 @@ pub enum RunHow {
     /// The input was read to its end, and every reply was written.
     Done,
     /// A read failed; these are the source's counts of faults round it.
-    ReadFault { before: u64, after: u64 },
+    ReadFault {
+        before: u64,
+        after: u64,
+    },
     /// A write failed, or nothing more was taken; these are the sink's counts of faults round it.
     WriteFault {
         before: u64,
@@ -26,7 +29,9 @@ pub enum RunHow {
     /// As many bytes were read as a run reads.
     TooLong,
     /// The line of this number, from 1, isn't of its form.
-    WrongLine { line: u64 },
+    WrongLine {
+        line: u64,
+    },
     NoMemory,
 }
 

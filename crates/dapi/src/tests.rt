@@ -176,7 +176,8 @@ fn other_words_are_usage(rt: HostRuntime) -> Result<(), Fail> {
     )
 }
 
-const TAKEN: &str = "{\"errors\":[{\"message\":\"Document \\\"a\\\" already exists at version 1\",\"errorCode\":\"DOCUMENT_ALREADY_EXISTS\"}]}\n";
+const TAKEN: &str =
+    "{\"errors\":[{\"message\":\"Document \\\"a\\\" already exists at version 1\",\"errorCode\":\"DOCUMENT_ALREADY_EXISTS\"}]}\n";
 
 // The replies to so many of the lines that are alike, as `three_lines` gives them.
 fn replies<R: AllocGlobal>(rt: &R, count: usize) -> Result<String, AllocError> {
@@ -200,7 +201,8 @@ fn three_lines<R: AllocGlobal>(rt: &R, last: &str) -> Result<String, AllocError>
 #[test]
 fn a_wrong_line_leaves_the_replies_before_it(rt: HostRuntime) -> Result<(), Fail> {
     let output = replies(&rt, 3)?;
-    let wrong = "hello\n|hello|/v1/ks/c\n|/v1/ks/c/d {}|/v1//c {}|/v1/ {}|/v2/ks/c {}| /v1/ks/c {}|\r\r";
+    let wrong =
+        "hello\n|hello|/v1/ks/c\n|/v1/ks/c/d {}|/v1//c {}|/v1/ {}|/v2/ks/c {}| /v1/ks/c {}|\r\r";
     for last in wrong.split('|') {
         let input = three_lines(&rt, last)?;
         for piece in [1, 2, 47, 48, 49, 96, 143, 144, 145, 1000] {
@@ -291,7 +293,10 @@ fn a_body_is_refused_as_soon_as_it_is_too_long(rt: HostRuntime) -> Result<(), Fa
     let mut source = MemSource::new(input, 60_000, Vec::new(alloc));
     let mut sink = MemSink::new(alloc, 1000, Vec::new(alloc))?;
     let mut notes = MemSink::new(alloc, 100, Vec::new(alloc))?;
-    assert_eq!(rt; dapi(alloc, words.as_slice(), &mut source, &mut sink, &mut notes), 6);
+    assert_eq!(rt;
+        dapi(alloc, words.as_slice(), &mut source, &mut sink, &mut notes),
+        6
+    );
     assert_eq!(rt; sink.bytes(), REPLY.as_bytes());
     assert_eq!(rt; notes.bytes(), b"line 2 is not a request\n".as_slice());
     Ok(())
