@@ -39,11 +39,14 @@ fn line_end(bytes: &[u8], searched: usize) -> Option<usize>
     }
 }
 
-// Drops bytes from the front.
+// Drops bytes from the front. A long line, of which nothing is dropped, isn't moved.
 fn drop_front(bytes: &mut Vec<u8>, count: usize)
     requires { count ≤ length bytes.old.items }
     ensures { bytes.new.items ≡ drop count bytes.old.items }
 {
+    if count == 0 {
+        return;
+    }
     let rest = bytes.len() - count;
     bytes.as_mut_slice().copy_within(count.., 0);
     bytes.truncate(rest);
