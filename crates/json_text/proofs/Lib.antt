@@ -30,3 +30,4 @@ pub mod FitTokens
 pub mod Spelled
 pub mod Decided
 pub mod Kept
+pub mod Short

@@ -29,7 +29,7 @@ abbrev pub StopsAt : (ℕ → Bool) → List ℕ → Type 0
 StopsAt p [] = ⊤
 StopsAt p (x ∷ xs) = p x ≡ false
 
-run_stops : (p : ℕ → Bool) (w rest : List ℕ) → list_all p w ≡ true → StopsAt p rest → prefix_len p (w ++ rest) ≡ length w
+pub run_stops : (p : ℕ → Bool) (w rest : List ℕ) → list_all p w ≡ true → StopsAt p rest → prefix_len p (w ++ rest) ≡ length w
 run_stops p [] [] a s = refl
 run_stops p [] (x ∷ xs) a s = ap (λ b. cond b (1 + prefix_len p xs) 0) s
 run_stops p (x ∷ w) rest a s =
@@ -46,7 +46,7 @@ run_rest p w rest a s = ap (λ n. drop n (w ++ rest)) (run_stops p w rest a s) �
 all_both : (p : ℕ → Bool) (xs ys : List ℕ) → list_all p xs ≡ true → list_all p ys ≡ true → list_all p (xs ++ ys) ≡ true
 all_both p xs ys a b = list_all-append p xs ys ∙ ap₂ (λ x y. x && y) a b
 
-all_more : (p q : ℕ → Bool) (xs : List ℕ) → ((x : ℕ) → p x ≡ true → q x ≡ true) → list_all p xs ≡ true → list_all q xs ≡ true
+pub all_more : (p q : ℕ → Bool) (xs : List ℕ) → ((x : ℕ) → p x ≡ true → q x ≡ true) → list_all p xs ≡ true → list_all q xs ≡ true
 all_more p q [] h a = refl
 all_more p q (x ∷ xs) h a = let r = and_parts (p x) (list_all p xs) a in ap₂ (λ x y. x && y) (h x r.0) (all_more p q xs h r.1)
 
@@ -58,7 +58,7 @@ digit_is d h = grind (arith, nat_tests)
 value_is : (d : ℕ) → d < 10 → digit_value (48 + d) ≡ d
 value_is d h = grind (arith, nat_tests)
 
-digit_in_numeral : (x : ℕ) → is_ascii_digit x ≡ true → is_numeral_byte x ≡ true
+pub digit_in_numeral : (x : ℕ) → is_ascii_digit x ≡ true → is_numeral_byte x ≡ true
 digit_in_numeral x h = grind (arith, nat_tests)
 
 -- the digits of a whole number have no zero in front, but for zero itself
@@ -161,7 +161,7 @@ point_stops : (ds : List ℕ) → StopsAt is_ascii_digit (with_point ds)
 point_stops [] = tt
 point_stops (d ∷ ds) = refl
 
-no_more : (ds : List ℕ) → list_all is_ascii_digit ds ≡ true → (digits ds ≡ ds) × (after_digits ds ≡ [])
+pub no_more : (ds : List ℕ) → list_all is_ascii_digit ds ≡ true → (digits ds ≡ ds) × (after_digits ds ≡ [])
 no_more ds h = (
   ap digits (sym (append-nil ds)) ∙ run_front is_ascii_digit ds [] h tt,
   ap after_digits (sym (append-nil ds)) ∙ run_rest is_ascii_digit ds [] h tt,
@@ -221,7 +221,7 @@ module _ (n : ℕ) (small : n < 10 ^ 38) where
 
 -- ---- a number
 
-no_minus : (x : ℕ) → is_ascii_digit x ≡ true → eqb x 45 ≡ false
+pub no_minus : (x : ℕ) → is_ascii_digit x ≡ true → eqb x 45 ≡ false
 no_minus x h = grind (arith, nat_tests)
 
 starts : (x : ℕ) → is_ascii_digit x ≡ true → (is_ascii_digit x || eqb x 45) ≡ true

@@ -67,6 +67,14 @@ padded_point (suc k) n h = refl
 pub no_point : (k n : ℕ) (ds : List ℕ) → k ≡ 0 → trimmed k n ≡ ds → with_point ds ≡ []
 no_point k n ds e h = ap with_point (sym h ∙ ap (λ k. trimmed k n) e ∙ trimmed_none n)
 
+trimmed_zero : (k : ℕ) → trimmed k 0 ≡ []
+unfolding trimmed
+trimmed_zero zero = refl
+trimmed_zero (suc k) = trimmed_zero k
+
+pub zero_point : (n : ℕ) → n ≡ 0 → with_point (trimmed 18 n) ≡ []
+zero_point n e = ap (λ m. with_point (trimmed 18 m)) e ∙ ap with_point (trimmed_zero 18)
+
 pub some_point : (k n : ℕ) (ds : List ℕ) → 0 < k → n % 10 ≢ 0 → trimmed k n ≡ ds → with_point ds ≡ 46 ∷ padded k n
 some_point k n ds h e t = ap with_point (sym t ∙ trimmed_done k n h e) ∙ padded_point k n h
 

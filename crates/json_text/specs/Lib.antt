@@ -15,3 +15,4 @@ pub mod Fault
 pub mod Builds
 pub mod Ahead
 pub mod Print
+pub mod Short

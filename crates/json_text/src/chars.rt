@@ -23,7 +23,7 @@ pub(crate) enum Front<'a> {
     Wide(char, &'a str),
 }
 
-pub(crate) fn front_of(text: &str) -> Front<'_>
+fn decoded_front(text: &str) -> Front<'_>
     ensures { IsFront text.now result }
 {
     match split_char(text) {
@@ -35,6 +35,15 @@ pub(crate) fn front_of(text: &str) -> Front<'_>
                 Front::Wide(c, rest)
             }
         }
+    }
+}
+
+pub(crate) fn front_of(text: &str) -> Front<'_>
+    ensures { IsFront text.now result }
+{
+    match text.as_bytes() {
+        [b, ..] if *b < 0x80 => Front::Ascii(*b, &text[1..]),
+        _ => decoded_front(text),
     }
 }
 

@@ -1,12 +1,13 @@
 // Tokens.
-ghost use Rattle.std.specs.Prelude.{◌≡◌, ◌<◌, ◌≤◌, length, IfOk, take, drop};
+ghost use Rattle.std.specs.Prelude.{◌≡◌, ◌<◌, ◌≤◌, length, Some, IfOk, IfSome, take, drop};
 ghost use Rattle.std.specs.List.{prefix_len};
 ghost use Rattle.json_text.specs.Lex.{token_at, numeral_at, string_token, is_letter, word_token, word_at};
 ghost use Rattle.json_text.specs.Text.{string_at, plain};
+ghost use Rattle.json_text.specs.Token.{number};
 ghost use Rattle.json_text.specs.View.{token_of};
 
 use crate::chars::{Front, front_of};
-use crate::numeral::{numeral, numeral_len};
+use crate::numeral::{numeral, numeral_len, short_whole};
 use crate::string::string_of;
 use json_tree::{Num, Text};
 use std::alloc::{AllocError, Global};
@@ -46,6 +47,17 @@ fn numeral_token(text: &str) -> (Token, &str)
         None => Token::Malformed,
     };
     (token, &text[len..])
+}
+
+// The numeral at the front, where it is digits alone and few.
+pub(crate) fn short_numeral(text: &str) -> Option<(Num, &str)>
+    ensures { IfSome result (λ p. (number (Some p.0), p.1.now) ≡ numeral_at text.now) }
+{
+    let (n, len) = short_whole(text.as_bytes())?;
+    Some((
+        Num::of_units(n as i128 * 1_000_000_000_000_000_000),
+        &text[len..],
+    ))
 }
 
 fn is_letter(b: u8) -> bool

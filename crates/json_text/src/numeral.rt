@@ -7,6 +7,7 @@ ghost use Rattle.json_text.specs.Numeral.{is_numeral_byte, digits, after_digits,
 ghost use Rattle.json_tree.specs.Num.{units_of};
 ghost use Rattle.json_text.specs.Capped.{IsCut};
 ghost use Rattle.json_text.specs.Parts.{IsCutNumber, WholeRead, IsExponent, AreParts};
+ghost use Rattle.json_text.specs.Short.{IsFront, Stops, IsShort};
 
 use crate::decimal::{ZERO, few_units, units, with_digits, with_few_digits};
 use json_tree::Num;
@@ -41,6 +42,45 @@ fn digits_len(bytes: &[u8]) -> usize
         len += 1;
     }
     len
+}
+
+// The number that the digits at the front write, at most 18 of them, and how many they are.
+fn few_digits(bytes: &[u8]) -> (u64, usize)
+    ensures { IsFront bytes.now result.0 result.1 }
+{
+    let mut n = 0;
+    let mut len = 0;
+    'digits: while len < bytes.len() && len < 18 && bytes[len].is_ascii_digit() {
+        n = n * 10 + (bytes[len] - b'0') as u64;
+        len += 1;
+    }
+    (n, len)
+}
+
+// Whether a numeral that stood before the bytes has ended.
+fn has_ended(bytes: &[u8]) -> bool
+    ensures { IsTrue result → Stops bytes.now }
+{
+    match bytes {
+        [] => true,
+        [b, ..] => !is_numeral_byte(*b),
+    }
+}
+
+// The numeral at the front and its length, where it is digits alone and at most 18.
+#[tactic(auto, using(crate::proofs::Short::short))]
+pub(crate) fn short_whole(bytes: &[u8]) -> Option<(u64, usize)>
+    ensures { IfSome result (λ p. IsShort bytes.now p.0 p.1) }
+{
+    let (n, len) = few_digits(bytes);
+    let (digits, rest) = bytes.split_at(len);
+    if !is_whole(digits) {
+        return None;
+    }
+    if !has_ended(rest) {
+        return None;
+    }
+    Some((n, len))
 }
 
 // The digits at the front, and what follows them.

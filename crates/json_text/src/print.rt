@@ -1,5 +1,5 @@
 // Printing.
-ghost use Rattle.std.specs.Prelude.{◌≡◌, ◌==◌, ◌<◌, ◌≤◌, ◌^◌, ℕ, List, ◌∷◌, ◌++◌, [], OnOk, OnErr, IfOk, IfErr};
+ghost use Rattle.std.specs.Prelude.{◌≡◌, ◌==◌, ◌<◌, ◌≤◌, ◌^◌, ℕ, List, ◌∷◌, ◌++◌, [], decimal, OnOk, OnErr, IfOk, IfErr};
 ghost use Rattle.std.specs.List.{flat_map};
 ghost use Rattle.std.specs.Char.{digit_char};
 ghost use Rattle.std.specs.Fmt.{signed_decimal};
@@ -14,6 +14,9 @@ use crate::read::TextFault;
 use crate::string::plain_len;
 use json_tree::{Items, Members, Value};
 use std::alloc::{AllocError, Global};
+
+// How many units 1 has.
+const UNIT: u128 = 1_000_000_000_000_000_000;
 
 fn digit_char(digit: u8) -> u8
     requires { digit < 16 }
@@ -109,6 +112,9 @@ fn print_fraction(n: u64, out: &mut Vec<u8>) -> Result<(), AllocError>
     ensures ok { OnOk result (out.new.items ≡ out.old.items ++ with_point (trimmed 18 n)) }
     ensures kept { OnErr result (Extends out.old.items out.new.items) }
 {
+    if n == 0 {
+        return Ok(());
+    }
     let mut left = n;
     let mut unit = 1_000_000_000_000_000_000;
     let mut k = 18;
@@ -126,14 +132,24 @@ fn print_fraction(n: u64, out: &mut Vec<u8>) -> Result<(), AllocError>
 }
 
 #[tactic(auto, using(crate::proofs::Kept::kept))]
+fn print_whole(n: u128, out: &mut Vec<u8>) -> Result<(), AllocError>
+    ensures ok { OnOk result (out.new.items ≡ out.old.items ++ decimal n) }
+    ensures kept { OnErr result (Extends out.old.items out.new.items) }
+{
+    let mut buffer = itoa::Buffer::new();
+    if n <= u64::MAX as u128 {
+        return out.extend_from_slice(buffer.format(n as u64).as_bytes());
+    }
+    out.extend_from_slice(buffer.format(n).as_bytes())
+}
+
+#[tactic(auto, using(crate::proofs::Kept::kept))]
 fn print_magnitude(n: u128, out: &mut Vec<u8>) -> Result<(), AllocError>
     ensures ok { OnOk result (out.new.items ≡ out.old.items ++ magnitude_text n) }
     ensures kept { OnErr result (Extends out.old.items out.new.items) }
 {
-    let mut buffer = itoa::Buffer::new();
-    let whole = buffer.format(n / 1_000_000_000_000_000_000);
-    out.extend_from_slice(whole.as_bytes())?;
-    print_fraction((n % 1_000_000_000_000_000_000) as u64, out)?;
+    print_whole(n / UNIT, out)?;
+    print_fraction((n % UNIT) as u64, out)?;
     Ok(())
 }
 

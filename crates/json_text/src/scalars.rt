@@ -10,7 +10,7 @@ ghost use Rattle.json_text.specs.declared.read.TextFault.TheVariants.{NoMemory};
 
 use crate::builder::{Place, Slot};
 use crate::chars::{Front, after_blanks, front_of};
-use crate::lex::{Token, next_token};
+use crate::lex::{Token, next_token, short_numeral};
 use crate::read::TextFault;
 use crate::string::string_of;
 use json_tree::{Items, ObjectBuilder, Text, Value};
@@ -83,6 +83,10 @@ fn scalar_of(alloc: Global, text: &str) -> Result<Option<(Value, &str)>, TextFau
         Front::Ascii(b'"', rest) => match string_of(alloc, rest)? {
             Some((text, after)) => Ok(Some((Value::Text(text), after))),
             None => Ok(None),
+        },
+        Front::Ascii(b'0'..=b'9', _) => match short_numeral(from) {
+            Some((n, after)) => Ok(Some((Value::Num(n), after))),
+            None => bare_scalar_of(alloc, from),
         },
         Front::Ascii(b'{' | b'[', _) => Ok(None),
         _ => bare_scalar_of(alloc, from),

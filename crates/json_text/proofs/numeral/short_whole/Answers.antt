@@ -1,0 +1,12 @@
+use Rattle.std.proofs.Common.{◌≡◌, ◌∙◌, true, sym, rules}
+use Rattle.json_text.specs.Numeral.{is_whole}
+use Rattle.json_text.proofs.Short.{is_short}
+use Rattle.json_text.proofs.numeral.short_whole.Goals as goal
+
+pub returns : goal.returns
+returns c =
+    let ds = c.split_at.result.0.now in
+    let rest = c.split_at.result.1.now in
+    let whole : c.is_whole.result ≡ true = search rules in
+    let ended : c.has_ended.result ≡ true = search rules in
+    is_short c.args.bytes.now ds rest c.few_digits-n.result.0 c.few_digits-n.result.1 c.few_digits-n.ensures c.split_at.ensures.front c.split_at.ensures.back (sym c.is_whole.ensures ∙ whole) (c.has_ended.ensures ended)
