@@ -14,7 +14,8 @@ use Rattle.json_text.specs.Grammar.{text_tokens, tokens_of, elements_tokens, mor
 use Rattle.json_text.specs.Print.{escaped, string_text, trimmed, with_point, magnitude_text, number_text, boolean_text, date_text, text_of, elements_text, members_text, more_members}
 use Rattle.json_text.specs.Print as print
 use Rattle.json_tree.specs.Dates.{date_name}
-use Rattle.json_tree.specs.Writable.{IsWritable, AreWritable, MembersAreWritable, IsI64, tree_levels}
+use Rattle.json_tree.specs.Writables.{writable_value}
+use Rattle.json_tree.specs.Writable.{IsValue, AreValues, MembersAreValues, IsWritable, AreWritable, MembersAreWritable, IsI64, tree_levels}
 use Rattle.json_text.proofs.Lexing.{token_next}
 use Rattle.json_text.proofs.Escaped.{content_again}
 use Rattle.json_text.proofs.PrintedNumbers.{StopsAt, run_front, run_rest, number_again, all_number, Starts, number_starts}
@@ -214,31 +215,33 @@ utf8_member : (n v more : List ℕ) → IsUtf8 n → IsUtf8 v → IsUtf8 more �
 utf8_member n v more a b c = IsUtf8-append (string_text n) (58 ∷ (v ++ more)) (utf8-string n a) (utf8-one 58 (v ++ more) refl (IsUtf8-append v more b c))
 
 mutual
-  utf8_value : (v : Tree) → IsWritable v → IsUtf8 (text_of v)
+  pub utf8_value : (v : Tree) → IsValue v → IsUtf8 (text_of v)
   utf8_value tree.null w = utf8-ascii (text_of tree.null) refl
   utf8_value (tree.boolean b) w = utf8-boolean b
   utf8_value (tree.number z) w = utf8-numeral (number_text z) (all_number z w)
   utf8_value (tree.text t) w = utf8-string t w
   utf8_value (tree.date n) w = IsUtf8-append (123 ∷ 34 ∷ 36 ∷ 100 ∷ 97 ∷ 116 ∷ 101 ∷ 34 ∷ 58 ∷ []) (signed_decimal n ++ 125 ∷ []) (utf8-ascii _ refl) (utf8-last 125 (signed_decimal n) refl (utf8-signed n w))
   utf8_value (tree.list vs) w = utf8-one 91 (elements_text vs ++ 93 ∷ []) refl (utf8-last 93 (elements_text vs) refl (utf8_elements vs w))
-  utf8_value (tree.object ms) w = utf8-one 123 (members_text ms ++ 125 ∷ []) refl (utf8-last 125 (members_text ms) refl (utf8_members [] ms w.0))
+  utf8_value (tree.object ms) w = utf8-one 123 (members_text ms ++ 125 ∷ []) refl (utf8-last 125 (members_text ms) refl (utf8_members ms w.1))
 
-  utf8_elements : (vs : Elements) → AreWritable vs → IsUtf8 (elements_text vs)
+  utf8_elements : (vs : Elements) → AreValues vs → IsUtf8 (elements_text vs)
   utf8_elements no_elements w = utf8-ascii [] refl
   utf8_elements (element v vs) w = IsUtf8-append (text_of v) (print.more_elements vs) (utf8_value v w.0) (utf8_more vs w.1)
 
-  utf8_more : (vs : Elements) → AreWritable vs → IsUtf8 (print.more_elements vs)
+  utf8_more : (vs : Elements) → AreValues vs → IsUtf8 (print.more_elements vs)
   utf8_more no_elements w = utf8-ascii [] refl
   utf8_more (element v vs) w = utf8-one 44 (text_of v ++ print.more_elements vs) refl (IsUtf8-append (text_of v) (print.more_elements vs) (utf8_value v w.0) (utf8_more vs w.1))
 
-  utf8_members : (names : List (List ℕ)) (ms : Members) → MembersAreWritable names ms → IsUtf8 (members_text ms)
-  utf8_members names no_members w = utf8-ascii [] refl
-  utf8_members names (member n v ms) w = utf8_member n (text_of v) (more_members ms) w.0 (utf8_value v w.2) (utf8_more_members (names ++ n ∷ []) ms w.3)
+  utf8_members : (ms : Members) → MembersAreValues ms → IsUtf8 (members_text ms)
+  utf8_members no_members w = utf8-ascii [] refl
+  utf8_members (member n v ms) w = utf8_member n (text_of v) (more_members ms) w.0 (utf8_value v w.1) (utf8_more_members ms w.2)
 
-  utf8_more_members : (names : List (List ℕ)) (ms : Members) → MembersAreWritable names ms → IsUtf8 (more_members ms)
-  utf8_more_members names no_members w = utf8-ascii [] refl
-  utf8_more_members names (member n v ms) w =
-      utf8-one 44 (string_text n ++ 58 ∷ (text_of v ++ more_members ms)) refl (utf8_member n (text_of v) (more_members ms) w.0 (utf8_value v w.2) (utf8_more_members (names ++ n ∷ []) ms w.3))
+  utf8_more_members : (ms : Members) → MembersAreValues ms → IsUtf8 (more_members ms)
+  utf8_more_members no_members w = utf8-ascii [] refl
+  utf8_more_members (member n v ms) w =
+      utf8-one 44 (string_text n ++ 58 ∷ (text_of v ++ more_members ms)) refl (utf8_member n (text_of v) (more_members ms) w.0 (utf8_value v w.1) (utf8_more_members ms w.2))
+
+pub ruleset utf8_texts = (utf8_value)
 
 -- ---- the whole text
 
@@ -247,7 +250,7 @@ unfolding tokens_from
 reads_back v w low = (
   json_of v,
   record {
-    utf8 = utf8_value v w;
+    utf8 = utf8_value v (writable_value v w);
     text = ap spelled (sym (append-nil (text_of v))) ∙ lex_value v w [] (tt, tt);
     levels = omega (arith, same_levels v);
     numbers = all_numbers v;

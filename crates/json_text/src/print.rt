@@ -2,6 +2,7 @@
 ghost use Rattle.std.specs.Prelude.{◌≡◌, ◌==◌, ◌<◌, ◌≤◌, ◌^◌, ℕ, List, ◌∷◌, ◌++◌, [], decimal, OnOk, OnErr, IfOk, IfErr};
 ghost use Rattle.std.specs.List.{flat_map};
 ghost use Rattle.std.specs.Char.{digit_char};
+ghost use Rattle.std.specs.Str.{IsUtf8};
 ghost use Rattle.std.specs.Fmt.{signed_decimal};
 ghost use Rattle.json_tree.specs.Tree.{Tree, list, object, elements_of, members_of};
 ghost use Rattle.json_tree.specs.View.{tree};
@@ -271,11 +272,14 @@ pub fn print_content(text: &[u8], out: &mut Vec<u8>) -> Result<(), AllocError>
 }
 
 /// Appends the canonical text of the value.
+#[tactic(auto, using(crate::proofs::Printed::utf8_texts))]
 pub fn print_value(value: &Value, out: &mut Vec<u8>) -> Result<(), TextFault>
     ensures ok { OnOk result (out.new.items ≡ out.old.items ++ text_of (tree value.now)) }
     ensures err { IfErr result (λ e. e ≡ NoMemory) }
     ensures unchanged { OnErr result (out.new.items ≡ out.old.items) }
+    ensures utf8 { IsUtf8 (text_of (tree value.now)) }
 {
+    value.by_type();
     let before = out.len();
     if print_tree(value, out).is_err() {
         out.truncate(before);
@@ -288,6 +292,7 @@ pub fn print_value(value: &Value, out: &mut Vec<u8>) -> Result<(), TextFault>
 pub fn canon(alloc: Global, value: &Value) -> Result<Vec<u8>, TextFault>
     ensures ok { IfOk result (λ out. out.items ≡ text_of (tree value.now)) }
     ensures err { IfErr result (λ e. e ≡ NoMemory) }
+    ensures utf8 { IfOk result (λ out. IsUtf8 out.items) }
 {
     let mut out = Vec::new(alloc);
     print_value(value, &mut out)?;
