@@ -31,3 +31,5 @@ pub mod Spelled
 pub mod Decided
 pub mod Kept
 pub mod Short
+pub mod NumeralParts
+pub mod ContentPieces

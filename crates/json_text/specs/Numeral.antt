@@ -1,5 +1,5 @@
 -- Numbers (RFC 8259, section 6), and their units of 10^-18.
-use Rattle.std.specs.Prelude.{ℕ, ℤ, pos, neg_ℤ, ◌-ℤ◌, List, [], ◌∷◌, ◌++◌, length, take, drop, Bool, false, if◌then◌else◌, ◌||◌, not, ◌==◌, Option, Some, None, option_map, option_and_then}
+use Rattle.std.specs.Prelude.{◌≡◌, ◌⊎◌, ℕ, ℤ, pos, neg_ℤ, IsTrue, ◌-ℤ◌, List, [], ◌∷◌, ◌++◌, length, take, drop, Bool, false, if◌then◌else◌, ◌||◌, not, ◌==◌, Option, Some, None, option_map, option_and_then}
 use Rattle.std.specs.List.{prefix_len, list_all}
 use Rattle.std.specs.Char.{is_ascii_digit}
 use Rattle.std.specs.Str.Parse.{digits_value}
@@ -59,3 +59,34 @@ unfoldable pub numeral : List ℕ → Option (Option ℤ)
 numeral [] = None
 numeral (x ∷ s) =
     if x == 45 then option_map (λ d. option_map (λ n. neg_ℤ (pos n)) (units_of d)) (unsigned s) else option_map (λ d. option_map pos (units_of d)) (unsigned (x ∷ s))
+
+-- ---- the same, as the RFC writes it: number = [ minus ] int [ frac ] [ exp ]
+
+abbrev pub AreDigits : List ℕ → Type 0
+AreDigits s = IsTrue (list_all is_ascii_digit s)
+
+abbrev pub IsMinus : List ℕ → Type 0
+IsMinus s = (s ≡ []) ⊎ (s ≡ 45 ∷ [])
+
+-- zero / ( digit1-9 *DIGIT )
+abbrev pub IsInt : List ℕ → Type 0
+IsInt s = (s ≡ 48 ∷ []) ⊎ ((d : ℕ) × (ds : List ℕ) × (s ≡ d ∷ ds) × (d ≡ 48 → ⊥) × AreDigits (d ∷ ds))
+
+-- decimal-point 1*DIGIT
+abbrev pub IsFrac : List ℕ → Type 0
+IsFrac s = (s ≡ []) ⊎ ((d : ℕ) × (ds : List ℕ) × (s ≡ 46 ∷ d ∷ ds) × AreDigits (d ∷ ds))
+
+-- e [ minus / plus ] 1*DIGIT
+abbrev pub IsExp : List ℕ → Type 0
+IsExp s = (s ≡ []) ⊎ ((e : ℕ) × (sign : List ℕ) × (d : ℕ) × (ds : List ℕ) × (s ≡ e ∷ (sign ++ d ∷ ds)) × ((e ≡ 101) ⊎ (e ≡ 69)) × ((sign ≡ []) ⊎ ((sign ≡ 43 ∷ []) ⊎ (sign ≡ 45 ∷ []))) × AreDigits (d ∷ ds))
+
+pub record IsNumeral (bytes : List ℕ) : Type 0 where
+  pub minus : List ℕ
+  pub int : List ℕ
+  pub frac : List ℕ
+  pub exp : List ℕ
+  pub written : bytes ≡ minus ++ (int ++ (frac ++ exp))
+  pub is_minus : IsMinus minus
+  pub is_int : IsInt int
+  pub is_frac : IsFrac frac
+  pub is_exp : IsExp exp

@@ -9,8 +9,8 @@ ghost use Rattle.json_text.specs.View.{token_of};
 use crate::chars::{Front, front_of};
 use crate::numeral::{numeral, numeral_len, short_whole};
 use crate::string::string_of;
-use json_tree::{Num, Text};
-use std::alloc::{AllocError, Global};
+use json_tree::{Num, Text, TreeFault};
+use std::alloc::Global;
 
 #[derive(Drop)]
 pub(crate) enum Token {
@@ -29,7 +29,7 @@ pub(crate) enum Token {
 }
 
 // The string whose opening quote stands before the text.
-fn string_token(alloc: Global, text: &str) -> Result<(Token, &str), AllocError>
+fn string_token(alloc: Global, text: &str) -> Result<(Token, &str), TreeFault>
     ensures { IfOk result (λ r. (token_of r.0, r.1.now) ≡ string_token (string_at plain text.now)) }
 {
     match string_of(alloc, text)? {
@@ -101,7 +101,7 @@ fn word_token(text: &str) -> (Token, &str)
 
 // The token at the front, and what follows it.
 #[tactic(auto, using(crate::proofs::Tokens::token_at_wide), unfolding(crate::specs::Lex::token_at))]
-pub(crate) fn next_token(alloc: Global, text: &str) -> Result<(Token, &str), AllocError>
+pub(crate) fn next_token(alloc: Global, text: &str) -> Result<(Token, &str), TreeFault>
     ensures { IfOk result (λ r. (token_of r.0, r.1.now) ≡ token_at text.now) }
 {
     match front_of(text) {

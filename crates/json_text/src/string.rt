@@ -6,8 +6,8 @@ ghost use Rattle.json_text.specs.Text.{short_escape, code_unit, is_high_half, is
 ghost use Rattle.json_text.specs.Part.{IsPart, unit_at, escaped_unit_at, is_plain};
 
 use crate::chars::{Front, front_of};
-use json_tree::Text;
-use std::alloc::{AllocError, Global};
+use json_tree::{Text, TreeFault};
+use std::alloc::Global;
 
 #[derive(Clone, Copy)]
 pub(crate) enum Part<'a> {
@@ -198,7 +198,7 @@ fn split_plain(text: &str) -> (&str, &str)
 }
 
 // The string whose opening quote stands before the text, and what follows it.
-fn escaped_string(alloc: Global, text: &str) -> Result<Option<(Text, &str)>, AllocError>
+fn escaped_string(alloc: Global, text: &str) -> Result<Option<(Text, &str)>, TreeFault>
     ensures { IfOk result (λ r. MatchOption r (string_at plain text.now ≡ None) (λ p. string_at plain text.now ≡ Some (p.0, p.1.now))) }
 {
     let mut content = String::new(alloc);
@@ -219,15 +219,12 @@ fn escaped_string(alloc: Global, text: &str) -> Result<Option<(Text, &str)>, All
 
 // The same; one without escapes is taken as it stands.
 #[tactic(auto, using(crate::proofs::Strings::plain_string))]
-pub(crate) fn string_of(alloc: Global, text: &str) -> Result<Option<(Text, &str)>, AllocError>
+pub(crate) fn string_of(alloc: Global, text: &str) -> Result<Option<(Text, &str)>, TreeFault>
     ensures { IfOk result (λ r. MatchOption r (string_at plain text.now ≡ None) (λ p. string_at plain text.now ≡ Some (p.0, p.1.now))) }
 {
     let (plain, from) = split_plain(text);
     match front_of(from) {
-        Front::Ascii(b'"', rest) => {
-            let content = String::from_str(alloc, plain)?;
-            Ok(Some((Text::of_string(content), rest)))
-        }
+        Front::Ascii(b'"', rest) => Ok(Some((Text::of_str(alloc, plain)?, rest))),
         _ => escaped_string(alloc, text),
     }
 }
