@@ -1,6 +1,6 @@
 // Strings.
-ghost use Rattle.std.specs.Prelude.{◌≡◌, ◌<◌, Some, None, IfOk, IfSome, IsTrue, MatchOption, option_map, length, take, drop};
-ghost use Rattle.std.specs.List.{prefix_len};
+ghost use Rattle.std.specs.Prelude.{◌≡◌, ◌<◌, ◌≤◌, ◌+◌, Some, None, IfOk, IfSome, IsTrue, MatchOption, option_map, length, take, drop};
+ghost use Rattle.std.specs.List.{prefix_len, list_all};
 ghost use Rattle.std.specs.Char.{digit_value};
 ghost use Rattle.json_text.specs.Text.{short_escape, code_unit, is_high_half, is_low_half, string_at, plain, after_backslash, after_u, after_high};
 ghost use Rattle.json_text.specs.Part.{IsPart, unit_at, escaped_unit_at, is_plain};
@@ -8,6 +8,9 @@ ghost use Rattle.json_text.specs.Part.{IsPart, unit_at, escaped_unit_at, is_plai
 use crate::chars::{Front, front_of};
 use json_tree::{Text, TreeFault};
 use std::alloc::Global;
+
+// How many bytes are tested at once.
+const BLOCK: usize = 16;
 
 #[derive(Clone, Copy)]
 pub(crate) enum Part<'a> {
@@ -176,12 +179,36 @@ fn is_plain(b: u8) -> bool
     b != b'"' && b != b'\\' && b >= 0x20
 }
 
+// Whether all bytes stand for themselves. No byte ends it early, so that a machine tests many at once.
+#[tactic(auto, using(crate::proofs::Runs::all_runs))]
+fn all_plain(bytes: &[u8]) -> bool
+    ensures { result ≡ list_all is_plain bytes.now }
+{
+    let mut all = true;
+    'bytes: for b in bytes {
+        all &= is_plain(*b);
+    }
+    all
+}
+
+// How many bytes the blocks at the front have in which all bytes stand for themselves.
+fn plain_blocks_len(bytes: &[u8]) -> usize
+    ensures within { result ≤ length bytes.now }
+    ensures plain { result + prefix_len is_plain (drop result bytes.now) ≡ prefix_len is_plain bytes.now }
+{
+    let mut len = 0;
+    'wide: while bytes.len() - len >= BLOCK && all_plain(&bytes[len..len + BLOCK]) {
+        len += BLOCK;
+    }
+    len
+}
+
 // How many bytes at the front stand for themselves.
 #[tactic(auto, using(crate::proofs::Runs::runs))]
 pub(crate) fn plain_len(bytes: &[u8]) -> usize
     ensures { result ≡ prefix_len is_plain bytes.now }
 {
-    let mut len = 0;
+    let mut len = plain_blocks_len(bytes);
     'run: while len < bytes.len() && is_plain(bytes[len]) {
         len += 1;
     }
