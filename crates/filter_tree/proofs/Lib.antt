@@ -1,4 +1,4 @@
-pub mod Tests
+pub mod Passing
 pub mod Folds
 pub mod Table
 pub mod Walks
