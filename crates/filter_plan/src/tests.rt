@@ -99,7 +99,10 @@ fn word(verdict: Verdict) -> &'static str {
 // What the columns of a document tell of a filter, and whether they meet its probe where they tell that it matches.
 fn judged(alloc: Global, document: &str, filter: &str) -> Result<&'static str, Fail> {
     let value = read_value(alloc, document.as_bytes())?;
-    if !value.has_id_member() || value.has_dollar_name() {
+    if !value.has_id_member() {
+        return Ok("no document");
+    }
+    if value.has_dollar_name() {
         return Ok("no document");
     }
     let doc = Doc::of_value(alloc, value)?;

@@ -263,7 +263,10 @@ true => invalid ''
 // What a filter says of a document.
 fn says(alloc: Global, document: &str, filter: &str) -> Result<&'static str, Fail> {
     let value = read_value(alloc, document.as_bytes())?;
-    if !value.has_id_member() || value.has_dollar_name() {
+    if !value.has_id_member() {
+        return Ok("no document");
+    }
+    if value.has_dollar_name() {
         return Ok("no document");
     }
     let doc = Doc::of_value(alloc, value)?;
