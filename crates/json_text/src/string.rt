@@ -234,7 +234,7 @@ fn escaped_string(alloc: Global, text: &str) -> Result<Option<(Text, &str)>, Tre
         let (plain, from) = split_plain(rest);
         content.push_str(plain)?;
         match part_of(from) {
-            Part::Closing(after) => return Ok(Some((Text::of_string(content), after))),
+            Part::Closing(after) => return Ok(Some((Text::of_string(content)?, after))),
             Part::Malformed => return Ok(None),
             Part::Char(c, after) => {
                 content.push(c)?;

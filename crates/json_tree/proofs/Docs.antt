@@ -40,12 +40,6 @@ pub id_refused : (t i : Tree) (r : Result Tree TreeFault) → id_in t ≡ Some i
 id_refused t i (Ok d) e h = tt
 id_refused t i (Err f) e h = h ∙ ap (λ o. unwrap_or (option_and_then id_fault o) NoMemory) (sym e)
 
-pub no_fault_in : (t d : Tree) → id_in t ≡ Some d → IsId d → unwrap_or (id_fault_in t) NoMemory ≡ NoMemory
-no_fault_in t d e h = ap (λ o. unwrap_or (option_and_then id_fault o) NoMemory) e ∙ ap (λ o. unwrap_or o NoMemory) h
-
-pub document : (t d : Tree) → id_in t ≡ Some d → IsId d → has_dollar_name t ≡ false → IsDocument t
-document t d e h names = record { id = rw e h; names = names }
-
 -- ---- names
 
 abbrev elements_have : List Tree → Bool

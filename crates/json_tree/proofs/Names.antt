@@ -29,10 +29,6 @@ place_here name xs i x h p one e =
     let f = ap (place_of name) (front_of pair_of xs i x h p) ∙ place_zero name (pair_of x) (drop (i + 1) (map pair_of xs)) one in
     omega arith
 
-pub place_le : (name : List ℕ) (ps : List (List ℕ × Tree)) → place_of name ps ≤ length ps
-place_le name [] = omega arith
-place_le name (p ∷ ps) = let h = place_le name ps in elim (bytes_eq p.0 name) as (λ b. cond b 0 (suc (place_of name ps)) ≤ suc (length ps)) [ true ↦ omega arith | false ↦ omega arith ]
-
 pub member_is : (name : List ℕ) (ps : List (List ℕ × Tree)) → member_at name ps ≡ option_map (λ p. p.1) (slice_get ps (place_of name ps))
 member_is name [] = refl
 member_is name (p ∷ ps) =

@@ -10,6 +10,6 @@ pub located : {Y : Type 0} (m : BTreeMap (String Y) ℕ) (ps : List (List ℕ ×
 located m ps name p = ap (λ o. unwrap_or o (length ps)) (p.at name) ∙ place_of-in name ps
 
 -- other values leave the places
-pub places-revalue : {Y : Type 0} (o : Option (BTreeMap (String Y) ℕ)) (ps : List (List ℕ × Tree)) (i : ℕ) (t : Tree) → IfSome o (λ m. IsPlaces m ps) → IfSome o (λ m. IsPlaces m (revalue ps i t))
-places-revalue None ps i t p = tt
-places-revalue (Some m) ps i t p = record { at = λ q. p.at q ∙ sym (place_in-revalue q ps i t) }
+pub places-revalue : {Y B : Type 0} (f : B → BTreeMap (String Y) ℕ) (o : Option B) (ps : List (List ℕ × Tree)) (i : ℕ) (t : Tree) → IfSome o (λ m. IsPlaces (f m) ps) → IfSome o (λ m. IsPlaces (f m) (revalue ps i t))
+places-revalue f None ps i t p = tt
+places-revalue f (Some m) ps i t p = record { at = λ q. p.at q ∙ sym (place_in-revalue q ps i t) }

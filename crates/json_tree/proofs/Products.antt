@@ -4,7 +4,7 @@ use Rattle.std.proofs.Math.Nat.{zero-mul, div-add-mod'}
 use Rattle.std.proofs.lemmas.Bool.{lt-ltb, cases_lt}
 use borrow.Author.Tests.{ltb-true, eqb-true}
 use Rattle.json_tree.specs.Num.{IsNumber, in_range, coefficient_of, magnitude_product, with_signs, product_of}
-use Rattle.json_tree.proofs.Decimals.{divided-whole, fitted, in_range-small}
+use Rattle.json_tree.specs.Decimals.{divided-whole, fitted, in_range-small}
 
 -- ---- signs
 

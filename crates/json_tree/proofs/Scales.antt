@@ -5,7 +5,7 @@ use Rattle.std.proofs.Math.Pow.{pow-add}
 use Rattle.std.proofs.lemmas.Bool.{lt-ltb, le-ltb, eq-eqb, cases_lt}
 use Rattle.std.proofs.lemmas.Int.{ints}
 use Rattle.json_tree.specs.Num.{in_range, scaled, zeros_in, coefficient_of, magnitude_product}
-use Rattle.json_tree.proofs.Decimals.{divided, divided-part, fitted, in_range-small, in_range-large, ten_grows, ten_pos, ten_fits, divided-none, scaled-times}
+use Rattle.json_tree.specs.Decimals.{divided, divided-part, fitted, in_range-small, in_range-large, ten_grows, ten_pos, ten_fits, divided-none, scaled-times}
 
 pub fitted-high : (c : ℕ) (p : ℤ) → 0 < c → pos 38 ≤ℤ p → fitted c p ≡ None
 fitted-high c (pos k) h far =

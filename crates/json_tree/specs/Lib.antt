@@ -1,5 +1,7 @@
 pub mod Num
+pub mod Decimals
 pub mod Tree
+pub mod Forms
 pub mod View
 pub mod Falls
 pub mod Members

@@ -19,7 +19,7 @@ const FEW: usize = 32;
 #[derive(Drop)]
 pub struct ObjectBuilder {
     members: Members,
-    places: Option<BTreeMap<String, usize>>,
+    places: Option<Box<BTreeMap<String, usize>>>,
     alloc: Global,
 }
 
@@ -37,7 +37,7 @@ impl Model for ObjectBuilder {
 
     ghost use Rattle.json_tree.specs.Places.{IsPlaces};
 
-    ghost invariant = { λ a. IfSome a.places (λ m. IsPlaces m a.members) };
+    ghost invariant = { λ a. IfSome a.places (λ m. IsPlaces m.value a.members) };
 }
 
 /// The places of all names.
@@ -57,14 +57,14 @@ fn places_of(alloc: Global, members: &Members) -> Result<BTreeMap<String, usize>
 fn placed(
     alloc: Global,
     members: &mut Members,
-    places: BTreeMap<String, usize>,
+    places: Box<BTreeMap<String, usize>>,
     name: Text,
     value: Value,
-) -> Result<BTreeMap<String, usize>, TreeFault>
+) -> Result<Box<BTreeMap<String, usize>>, TreeFault>
     requires absent { length members.old ≤ place_of name members.old }
-    requires places { IsPlaces places members.old }
+    requires places { IsPlaces places.value members.old }
     ensures ok { OnOk result (members.new ≡ members.old ++ (name, tree value) ∷ []) }
-    ensures places { IfOk result (λ m. IsPlaces m members.new) }
+    ensures places { IfOk result (λ m. IsPlaces m.value members.new) }
     ensures refused { IfErr result (λ e. e ≡ NoMemory) }
     ensures err { OnErr result (members.new ≡ members.old) }
 {
@@ -118,7 +118,7 @@ impl ObjectBuilder {
         let places = match self.places.take() {
             Some(places) => places,
             None if self.members.len() < FEW => return self.members.add(name, value),
-            None => places_of(self.alloc, &self.members)?,
+            None => Box::new(self.alloc, places_of(self.alloc, &self.members)?)?,
         };
         self.places = Some(placed(self.alloc, &mut self.members, places, name, value)?);
         Ok(())
@@ -139,10 +139,12 @@ impl ObjectBuilder {
         self.add(name, value)
     }
 
-    /// The members, as they were put in.
+    /// The members, as they were put in, in memory of their size.
     pub fn finish(self) -> Members
         ensures { result ≡ self }
     {
-        self.members
+        let mut members = self.members;
+        members.fit();
+        members
     }
 }

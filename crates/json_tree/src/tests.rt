@@ -212,7 +212,7 @@ fn put_rounds(alloc: Global, rounds: u32, names: u32) -> Result<(Members, Member
             let value = Num::of_parts(i128::from(round), 0)?;
             let text = format!(in alloc; "name {name}")?;
             builder.put(Text::of_str(alloc, text.as_str())?, Value::Num(value))?;
-            members.put(Text::of_string(text), Value::Num(value))?;
+            members.put(Text::of_string(text)?, Value::Num(value))?;
         }
     }
     Ok((builder.finish(), members))
@@ -253,6 +253,21 @@ fn lists_change(rt: HostRuntime) -> Result<(), Fail> {
     assert!(rt; first.same(&Value::Null) && second.same(&Value::Date(1)));
     let copy = items.try_copy(rt.alloc())?;
     assert!(rt; copy.same(&items));
+    Ok(())
+}
+
+#[test]
+fn texts_of_many_lengths(rt: HostRuntime) -> Result<(), Fail> {
+    let mut string = String::new(rt.alloc());
+    for _ in 0..50u32 {
+        let text = Text::of_str(rt.alloc(), string.as_str())?;
+        let taken = Text::of_string(string.clone()?)?;
+        let copy = text.try_copy(rt.alloc())?;
+        assert_eq!(rt; copy.as_str(), string.as_str());
+        assert!(rt; copy.same(&taken) && taken.same(&text));
+        string.push('é')?;
+        assert!(rt; !Text::of_str(rt.alloc(), string.as_str())?.same(&copy));
+    }
     Ok(())
 }
 

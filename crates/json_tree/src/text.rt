@@ -1,24 +1,85 @@
-// Texts.
-ghost use Rattle.std.specs.Prelude.{◌≡◌, IfOk, IfErr, IsTrue, ◌↔◌, string_bytes};
+// Texts: short ones in place, long ones shared by their copies.
+ghost use Rattle.std.specs.Prelude.{◌≡◌, ◌≤◌, length, IfOk, IfErr, OnOk, IsTrue, ◌↔◌, string_bytes};
 ghost use Rattle.json_tree.specs.declared.fault.TreeFault.TheVariants.{NoMemory};
 
 use crate::fault::TreeFault;
-use std::alloc::Global;
+use std::alloc::{AllocError, Global};
 use std::fmt;
 use std::marker::Model;
+use std::sync::ArcStr;
+
+/// So many bytes stand in place.
+const FEW: usize = 22;
+
+/// Few bytes, with their length before them.
+#[derive(Drop)]
+struct Short {
+    len: u8,
+    bytes: [u8; 22],
+}
+
+impl Model for Short {
+    ghost use Rattle.std.specs.Prelude.{ℕ, List, take, ◌≤◌};
+    ghost use Rattle.std.specs.Str.{IsUtf8};
+
+    ghost Value = { List ℕ };
+
+    ghost view = { λ s. take s.len s.bytes };
+
+    ghost invariant = { λ s. (s.len ≤ 22) × IsUtf8 (take s.len s.bytes) };
+}
+
+impl Short {
+    fn of_str(text: &str) -> Short
+        requires { length text.now ≤ 22 }
+        ensures { result ≡ text.now }
+    {
+        let from = text.as_bytes();
+        let mut bytes = [0; 22];
+        bytes[..from.len()].copy_from_slice(from);
+        Short {
+            len: from.len() as u8,
+            bytes,
+        }
+    }
+
+    fn as_str(&self) -> &str
+        ensures { result.now ≡ self.now }
+    {
+        let bytes = &self.bytes[..usize::from(self.len)];
+        unsafe { str::from_utf8_unchecked(bytes) }
+    }
+
+    fn copy(&self) -> Short
+        ensures { result ≡ self.now }
+    {
+        Short {
+            len: self.len,
+            bytes: self.bytes,
+        }
+    }
+}
+
+#[derive(Drop)]
+enum Form {
+    Short(Short),
+    Long(ArcStr),
+}
 
 /// A text, seen as its bytes.
 #[derive(Drop)]
 pub struct Text {
-    inner: String,
+    form: Form,
 }
 
 impl Model for Text {
-    ghost use Rattle.std.specs.Prelude.{ℕ, List, string_bytes};
+    ghost use Rattle.std.specs.Prelude.{ℕ, List};
 
     ghost Value = { List ℕ };
 
-    ghost view = { λ t. string_bytes t.inner };
+    ghost use Rattle.json_tree.specs.Forms.{form_bytes};
+
+    ghost view = { λ t. form_bytes t.form };
 }
 
 impl Text {
@@ -27,31 +88,46 @@ impl Text {
         ensures ok { IfOk result (λ t. t ≡ text.now) }
         ensures err { IfErr result (λ e. e ≡ NoMemory) }
     {
-        Ok(Text {
-            inner: String::from_str(alloc, text)?,
-        })
+        let form = if text.len() <= FEW {
+            Form::Short(Short::of_str(text))
+        } else {
+            Form::Long(ArcStr::from_str(alloc, text)?)
+        };
+        Ok(Text { form })
     }
 
-    /// The text of a string, which it takes over.
-    pub fn of_string(text: String) -> Text
-        ensures { result ≡ string_bytes text }
+    /// The text of a string, which it takes over where it is long.
+    pub fn of_string(text: String) -> Result<Text, AllocError>
+        ensures { IfOk result (λ t. t ≡ string_bytes text) }
     {
-        Text { inner: text }
+        let form = if text.len() <= FEW {
+            Form::Short(Short::of_str(text.as_str()))
+        } else {
+            Form::Long(ArcStr::from_string(text)?)
+        };
+        Ok(Text { form })
     }
 
     /// The text, lent.
     pub fn as_str(&self) -> &str
         ensures { result.now ≡ self.now }
     {
-        self.inner.as_str()
+        match &self.form {
+            Form::Short(short) => short.as_str(),
+            Form::Long(long) => long.as_str(),
+        }
     }
 
-    /// The same text, in memory of its own.
-    pub fn try_copy(&self, alloc: Global) -> Result<Text, TreeFault>
+    /// The same text; a long one is shared.
+    pub fn try_copy(&self, _alloc: Global) -> Result<Text, TreeFault>
         ensures ok { IfOk result (λ t. t ≡ self.now) }
         ensures err { IfErr result (λ e. e ≡ NoMemory) }
     {
-        Text::of_str(alloc, self.as_str())
+        let form = match &self.form {
+            Form::Short(short) => Form::Short(short.copy()),
+            Form::Long(long) => Form::Long(long.clone()?),
+        };
+        Ok(Text { form })
     }
 
     /// Whether the bytes agree.

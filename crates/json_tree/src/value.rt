@@ -130,6 +130,13 @@ impl Items {
         self.items.as_slice()
     }
 
+    /// Gives back the memory that it doesn't need.
+    pub fn fit(&mut self)
+        ensures { self.new ≡ self.old }
+    {
+        self.items.shrink_to_fit();
+    }
+
     /// The element at a place.
     pub fn get(&self, place: usize) -> Option<&Value>
         ensures { option_map (λ v. tree v.now) result ≡ slice_get self.now place }
@@ -214,6 +221,13 @@ impl Members {
         ensures { map pair_of result.now ≡ self.now }
     {
         self.pairs.as_slice()
+    }
+
+    /// Gives back the memory that it doesn't need.
+    pub(crate) fn fit(&mut self)
+        ensures { self.new ≡ self.old }
+    {
+        self.pairs.shrink_to_fit();
     }
 
     /// The place of a name, or the length.

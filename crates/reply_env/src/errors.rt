@@ -43,7 +43,7 @@ fn naming(
     message.push_str(after)?;
     Ok(ErrorItem {
         code,
-        message: Text::of_string(message),
+        message: Text::of_string(message)?,
     })
 }
 
@@ -69,7 +69,7 @@ fn placed(alloc: Global, code: Code, before: &str, at: u64) -> Result<ErrorItem,
     add_number(at, &mut message)?;
     Ok(ErrorItem {
         code,
-        message: Text::of_string(message),
+        message: Text::of_string(message)?,
     })
 }
 
@@ -81,7 +81,7 @@ fn ending(alloc: Global, code: Code, before: &str, named: &str) -> Result<ErrorI
     message.push_str(named)?;
     Ok(ErrorItem {
         code,
-        message: Text::of_string(message),
+        message: Text::of_string(message)?,
     })
 }
 
@@ -280,7 +280,7 @@ pub fn broken_limit(
     add_number(found, &mut message)?;
     Ok(ErrorItem {
         code: Code::ShredDocLimitViolation,
-        message: Text::of_string(message),
+        message: Text::of_string(message)?,
     })
 }
 
@@ -312,7 +312,7 @@ pub fn already_exists(alloc: Global, id: &DocId, tx: u64) -> Result<ErrorItem, R
     add_number(tx, &mut message)?;
     Ok(ErrorItem {
         code: Code::DocumentAlreadyExists,
-        message: Text::of_string(message),
+        message: Text::of_string(message)?,
     })
 }
 
@@ -339,7 +339,7 @@ pub fn store_fault(alloc: Global, before: u64, after: u64) -> Result<ErrorItem, 
     add_number(after, &mut message)?;
     Ok(ErrorItem {
         code: Code::StoreFault,
-        message: Text::of_string(message),
+        message: Text::of_string(message)?,
     })
 }
 

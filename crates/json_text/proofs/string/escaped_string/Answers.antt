@@ -32,7 +32,7 @@ parts-preserved c = (
 pub returns-in-Closing : goal.returns-in-Closing
 returns-in-Closing c =
     of_part (goal.at.returns-in-Closing c).After-part_of (Some ([], c.in-Closing.after.now)) c.in-Closing.ensures
-    ∙ ap (λ s. Some (s, c.in-Closing.after.now)) (append-nil (string_bytes c.push_str.new.self) ∙ sym c.of_string.ensures)
+    ∙ ap (λ s. Some (s, c.in-Closing.after.now)) (append-nil (string_bytes c.push_str.new.self) ∙ sym c.in_ok-of_string-in-Closing.ensures)
 
 pub returns-in-Malformed : goal.returns-in-Malformed
 returns-in-Malformed c = of_part (goal.at.returns-in-Malformed c).After-part_of None c.in-Malformed.ensures

@@ -1,5 +1,5 @@
 use Rattle.std.proofs.Common.{◌≡◌, ◌*◌, ◌^◌, ap, ◌∙◌, sym, arith}
-use Rattle.json_tree.proofs.Decimals.{divided-none, divided-step, divided-whole}
+use Rattle.json_tree.specs.Decimals.{divided-none, divided-step, divided-whole}
 use Rattle.json_tree.proofs.decimal.over.Goals as goal
 
 pub returns-then-n-ne0 : goal.returns-then-n-ne0

@@ -1,5 +1,5 @@
 use Rattle.std.proofs.Common.{arith, sym}
-use Rattle.json_tree.proofs.Decimals.{divided-step}
+use Rattle.json_tree.specs.Decimals.{divided-step}
 use Rattle.json_tree.proofs.decimal.split_zeros.Goals as goal
 
 pub zeros-preserved : goal.zeros-preserved

@@ -1,5 +1,5 @@
 use Rattle.std.proofs.Common.{◌≡◌, suc, ◌+◌, ◌-◌, ◌*◌, ◌^◌, ap, ◌∙◌, sym, arith}
-use Rattle.json_tree.proofs.Decimals.{ten_step, ten_fits, in_range-large}
+use Rattle.json_tree.specs.Decimals.{ten_step, ten_fits, in_range-large}
 use Rattle.json_tree.proofs.decimal.times.Goals as goal
 
 pub returns-then-n : goal.returns-then-n

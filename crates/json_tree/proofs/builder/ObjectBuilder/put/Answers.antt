@@ -6,7 +6,7 @@ use Rattle.json_tree.proofs.Places.{places-revalue}
 use Rattle.json_tree.proofs.builder.ObjectBuilder.put.Goals as goal
 
 pub invariant_of-self : goal.invariant_of-self
-invariant_of-self c = rw c.swap_in.ensures.new (places-revalue c.self.inside.places c.self.inside.members c.place-place.result (tree c.args.value) c.self.invariant)
+invariant_of-self c = rw c.swap_in.ensures.new (places-revalue (λ m. m.value) c.self.inside.places c.self.inside.members c.place-place.result (tree c.args.value) c.self.invariant)
 
 pub returns-then-place-len-clause-ok : goal.returns-then-place-len-clause-ok
 returns-then-place-len-clause-ok c =
