@@ -124,7 +124,10 @@ fn row_of(alloc: Global, text: &str) -> Result<Option<Row>, Fail>
     ensures { IfOk result (λ r. IfSome r (λ row. (row.tx ≡ 1) × KeepsLimits row.doc × IsShort (id_of row.doc))) }
 {
     let value = read_value(alloc, text.as_bytes())?;
-    if !value.is_document() {
+    if !value.has_id_member() {
+        return Ok(None);
+    }
+    if value.has_dollar_name() {
         return Ok(None);
     }
     let Ok(()) = check(&value) else {
