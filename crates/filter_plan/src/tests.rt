@@ -96,30 +96,49 @@ fn word(verdict: Verdict) -> &'static str {
     }
 }
 
-// What the columns of a document tell of a filter, and whether they meet its probe where they tell that it matches.
-fn judged(alloc: Global, document: &str, filter: &str) -> Result<&'static str, Fail> {
-    let value = read_value(alloc, document.as_bytes())?;
+// The document that a text spells, if it is one.
+fn document_of(alloc: Global, text: &str) -> Result<Option<Doc>, Fail> {
+    let value = read_value(alloc, text.as_bytes())?;
     if !value.has_id_member() {
-        return Ok("no document");
+        return Ok(None);
     }
     if value.has_dollar_name() {
-        return Ok("no document");
+        return Ok(None);
     }
-    let doc = Doc::of_value(alloc, value)?;
-    let columns = shred(alloc, &doc)?;
-    let value = read_value(alloc, filter.as_bytes())?;
-    let Ok(filter) = Filter::read(alloc, &value) else {
-        return Ok("refused");
-    };
-    let plan = plan(alloc, &filter)?;
+    Ok(Some(Doc::of_value(alloc, value)?))
+}
+
+// The filter that a text spells, if it isn't refused.
+fn filter_of(alloc: Global, text: &str) -> Result<Option<Filter>, Fail> {
+    let value = read_value(alloc, text.as_bytes())?;
+    match Filter::read(alloc, &value) {
+        Ok(filter) => Ok(Some(filter)),
+        Err(_) => Ok(None),
+    }
+}
+
+// What the columns of a document tell of a filter, and whether they meet its probe where they tell that it matches.
+fn told(alloc: Global, doc: &Doc, filter: &Filter) -> Result<&'static str, Fail> {
+    let columns = shred(alloc, doc)?;
+    let plan = plan(alloc, filter)?;
     let verdict = plan.judge(&columns);
     if verdict == Verdict::Yes && !columns.meets(plan.probe()) {
         return Ok("passed over");
     }
-    if filter.test(&doc) != (verdict == Verdict::Yes) {
+    if filter.test(doc) != (verdict == Verdict::Yes) {
         return Ok("disagrees");
     }
     Ok(word(verdict))
+}
+
+fn judged(alloc: Global, document: &str, filter: &str) -> Result<&'static str, Fail> {
+    let Some(doc) = document_of(alloc, document)? else {
+        return Ok("no document");
+    };
+    let Some(filter) = filter_of(alloc, filter)? else {
+        return Ok("refused");
+    };
+    told(alloc, &doc, &filter)
 }
 
 fn judges_row(alloc: Global, document: &str, row: &str) -> Result<bool, Fail> {
