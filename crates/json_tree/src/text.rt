@@ -9,13 +9,13 @@ use std::marker::Model;
 use std::sync::ArcStr;
 
 /// So many bytes stand in place.
-const FEW: usize = 22;
+const FEW: usize = 14;
 
 /// Few bytes, with their length before them.
 #[derive(Drop)]
 struct Short {
     len: u8,
-    bytes: [u8; 22],
+    bytes: [u8; 14],
 }
 
 impl Model for Short {
@@ -26,16 +26,16 @@ impl Model for Short {
 
     ghost view = { λ s. take s.len s.bytes };
 
-    ghost invariant = { λ s. (s.len ≤ 22) × IsUtf8 (take s.len s.bytes) };
+    ghost invariant = { λ s. (s.len ≤ 14) × IsUtf8 (take s.len s.bytes) };
 }
 
 impl Short {
     fn of_str(text: &str) -> Short
-        requires { length text.now ≤ 22 }
+        requires { length text.now ≤ 14 }
         ensures { result ≡ text.now }
     {
         let from = text.as_bytes();
-        let mut bytes = [0; 22];
+        let mut bytes = [0; 14];
         bytes[..from.len()].copy_from_slice(from);
         Short {
             len: from.len() as u8,

@@ -224,7 +224,7 @@ impl Members {
     }
 
     /// Gives back the memory that it doesn't need.
-    pub(crate) fn fit(&mut self)
+    pub fn fit(&mut self)
         ensures { self.new ≡ self.old }
     {
         self.pairs.shrink_to_fit();
