@@ -200,6 +200,15 @@ impl Members {
         }
     }
 
+    /// The members that pairs of distinct names are.
+    pub(crate) fn of_pairs(pairs: Vec<(Text, Value)>) -> Members
+        requires distinct { IsTrue (all_distinct (map pair_of pairs.items)) }
+        requires values { MembersAreValues (members_of (map pair_of pairs.items)) }
+        ensures { result ≡ map pair_of pairs.items }
+    {
+        Members { pairs }
+    }
+
     /// How many members it has. Their names are distinct.
     pub fn len(&self) -> usize
         ensures value { result ≡ length self.now }
