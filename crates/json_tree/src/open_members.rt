@@ -1,4 +1,4 @@
-// The parts of all lists and objects that are being read, on two stacks.
+// The members of all objects that are being read, on one stack.
 ghost use Rattle.std.specs.Prelude.{◌≡◌, [], ◌∷◌, ◌++◌, ◌≤◌, length, map, take, drop, is_some, IsTrue, IfOk, IfErr, OnOk, OnErr};
 ghost use Rattle.json_tree.specs.View.{tree, pair_of};
 ghost use Rattle.json_tree.specs.Tree.{members_of};

@@ -109,6 +109,14 @@ impl Items {
         }
     }
 
+    /// The list of values.
+    pub(crate) fn of_values(items: Vec<Value>) -> Items
+        requires { AreValues (elements_of (map tree items.items)) }
+        ensures { result ≡ map tree items.items }
+    {
+        Items { items }
+    }
+
     /// How many elements it has.
     pub fn len(&self) -> usize
         ensures { result ≡ length self.now }
@@ -454,7 +462,8 @@ impl Items {
     {
         let mut items = Vec::with_capacity(alloc, self.items.len())?;
         for i in 0..self.items.len() {
-            items.push(self.items[i].try_copy(alloc)?)?;
+            let item = self.items[i].try_copy(alloc)?;
+            items.push_reserved(item);
         }
         Ok(Items { items })
     }
@@ -472,7 +481,7 @@ impl Members {
             let pair = &self.pairs[i];
             let name = pair.0.try_copy(alloc)?;
             let value = pair.1.try_copy(alloc)?;
-            pairs.push((name, value))?;
+            pairs.push_reserved((name, value));
         }
         Ok(Members { pairs })
     }
