@@ -38,7 +38,7 @@ fn string_token(alloc: Global, text: &str) -> Result<(Token, &str), TreeFault>
     }
 }
 
-fn numeral_token(text: &str) -> (Token, &str)
+pub(crate) fn numeral_token(text: &str) -> (Token, &str)
     ensures { (token_of result.0, result.1.now) ≡ numeral_at text.now }
 {
     let len = numeral_len(text.as_bytes());
@@ -92,7 +92,7 @@ fn word(bytes: &[u8]) -> Token
     Token::Malformed
 }
 
-fn word_token(text: &str) -> (Token, &str)
+pub(crate) fn word_token(text: &str) -> (Token, &str)
     ensures { (token_of result.0, result.1.now) ≡ word_at text.now }
 {
     let len = word_len(text.as_bytes());
