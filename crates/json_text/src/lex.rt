@@ -38,6 +38,7 @@ fn string_token(alloc: Global, text: &str) -> Result<(Token, &str), TreeFault>
     }
 }
 
+#[inline(never)]
 pub(crate) fn numeral_token(text: &str) -> (Token, &str)
     ensures { (token_of result.0, result.1.now) ≡ numeral_at text.now }
 {
@@ -50,6 +51,7 @@ pub(crate) fn numeral_token(text: &str) -> (Token, &str)
 }
 
 // The numeral at the front, where it is digits alone and few.
+#[inline(always)]
 pub(crate) fn short_numeral(text: &str) -> Option<(Num, &str)>
     ensures { IfSome result (λ p. (number (Some p.0), p.1.now) ≡ numeral_at text.now) }
 {
