@@ -173,13 +173,13 @@ opening l t inner bs a v rest wanted first some e c =
     let opens = λ (slot : Slot Tree) (outer : Levels) (room : length outer < 32). let yes : opened trees slot outer inner ≡ more (at_place (slot ∷ outer) inner) = ap (λ b. cond b (more (at_place (slot ∷ outer) inner)) (fault too_deep)) (lt-ltb (length outer) 32 room) in yes in
     let shorter : length a < length bs = (took_more trees (at_place [] (want whole)) 0 bs t a e (at_place (whole ∷ []) inner) (wanted whole [] ∙ opens whole [] (omega arith))).0 in
     let runs = λ (p : Place Tree) (slot : Slot Tree) (by : (outer : Levels) → step trees (at_place outer p) t ≡ opened trees slot outer inner) (outer : Levels) (at : ℕ) (room : length outer + l ≤ 32).
-        let low : length outer < 32 = omega arith in
-        let below : length outer + suc (l - 1) ≤ 32 = omega arith in
-        let sum : at + (length bs - length a) + (length a - length rest) ≡ at + (length bs - length rest) = omega (arith, shorter, c.shorter) in
-        let all : run trees (at_place outer p) (tokens_from 0 at bs) ≡ run trees (at_place outer (delivered v slot)) (tokens_from 0 (at + (length bs - length rest)) rest) =
-        (took_more trees (at_place outer p) at bs t a e (at_place (slot ∷ outer) inner) (by outer ∙ opens slot outer low)).1
-        ∙ c.same slot outer (at + (length bs - length a)) below ∙ ap (λ n. run trees (at_place outer (delivered v slot)) (tokens_from 0 n rest)) sum in
-        all in
+    let low : length outer < 32 = omega arith in
+    let below : length outer + suc (l - 1) ≤ 32 = omega arith in
+    let sum : at + (length bs - length a) + (length a - length rest) ≡ at + (length bs - length rest) = omega (arith, shorter, c.shorter) in
+    let all : run trees (at_place outer p) (tokens_from 0 at bs) ≡ run trees (at_place outer (delivered v slot)) (tokens_from 0 (at + (length bs - length rest)) rest) =
+    (took_more trees (at_place outer p) at bs t a e (at_place (slot ∷ outer) inner) (by outer ∙ opens slot outer low)).1
+    ∙ c.same slot outer (at + (length bs - length a)) below ∙ ap (λ n. run trees (at_place outer (delivered v slot)) (tokens_from 0 n rest)) sum in
+    all in
     record {
       shorter = omega (arith, shorter, c.shorter);
       goes = λ slot. record { shorter = omega (arith, shorter, c.shorter); same = runs (want slot) slot (wanted slot) };

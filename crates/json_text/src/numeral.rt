@@ -86,17 +86,14 @@ fn short_fraction(bytes: &[u8]) -> Option<(u64, usize)>
     ensures { IfSome result (λ p. IsFraction bytes.now p.0 p.1) }
 {
     let Some(rest) = after_point(bytes) else {
-        return if has_ended(bytes) {
-            Some((0, 0))
-        } else {
-            None
-        };
+        return if has_ended(bytes) { Some((0, 0)) } else { None };
     };
     let (n, len) = few_digits(rest);
     if len == 0 {
         return None;
     }
-    if !has_ended(&rest[len..]) {
+    let (_, after) = rest.split_at(len);
+    if !has_ended(after) {
         return None;
     }
     Some((n * ten_to(18 - len as u64), len + 1))

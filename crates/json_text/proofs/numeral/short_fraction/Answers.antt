@@ -13,4 +13,4 @@ pub returns : goal.returns
 returns c =
     let ended : c.has_ended-2.result ≡ true = search rules in
     subst (λ t. IsFraction c.args.bytes.now (c.few_digits-n.result.0 * t) (c.few_digits-n.result.1 + 1)) (sym c.ten_to.ensures.value)
-    (some_fraction c.args.bytes.now c.in-Some.rest.now (drop c.few_digits-n.result.1 c.in-Some.rest.now) c.few_digits-n.result.0 c.few_digits-n.result.1 c.in-Some.ensures c.few_digits-n.ensures (omega arith) refl (c.has_ended-2.ensures ended))
+    (some_fraction c.args.bytes.now c.in-Some.rest.now c.split_at.result.1.now c.few_digits-n.result.0 c.few_digits-n.result.1 c.in-Some.ensures c.few_digits-n.ensures (omega arith) c.split_at.ensures.back (c.has_ended-2.ensures ended))
