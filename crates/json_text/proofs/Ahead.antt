@@ -1,15 +1,18 @@
--- Runs over several tokens.
-use Rattle.std.proofs.Common.{◌≡◌, ℕ, ◌+◌, ◌-◌, ◌≤◌, ◌<◌, List, [], ◌∷◌, ◌++◌, length, Option, Some, None, refl, sym, ap, ◌∙◌, arith, subst}
-use Rattle.std.specs.Prelude.{Result, Ok, Err, IfOk}
-use Rattle.json_tree.specs.Tree.{Tree}
+-- Runs over several tokens, and over whole values.
+use Rattle.std.proofs.Common.{◌≡◌, ℕ, zero, suc, ◌+◌, ◌-◌, ◌≤◌, ◌<◌, List, [], ◌∷◌, ◌++◌, length, Bool, true, false, cond, Option, Some, None, refl, sym, ap, ◌∙◌, arith, subst}
+use Rattle.std.specs.Prelude.{IfSome}
+use Rattle.std.specs.Str.{bytes_eq}
+use Rattle.std.proofs.lemmas.Bool.{lt-ltb}
+use Rattle.json_tree.specs.Tree.{Tree, list}
+use Rattle.json_tree.specs.Tree as tree
 use Rattle.json_tree.specs.Members.{put_member}
 use Rattle.json_text.specs.Token.{Token, Placed, string, number, boolean, null, begin_object, end_object, begin_array, end_array, name_separator, value_separator, end, malformed}
-use Rattle.json_text.specs.Text.{string_at, plain}
-use Rattle.json_text.specs.Lex.{token_at, tokens_from, string_token}
-use Rattle.json_text.specs.Machine.{Place, Slot, element_of, member_of, want, first_element, after_element, first_name, name_of, colon_of, after_member, State, more, step, End, then_run, run, trees, deliver, step_value, step_first_element}
-use Rattle.json_text.specs.Ahead.{unblanked, scalar_value, IsFirst, IsScalar, GoesOn}
-use Rattle.json_text.proofs.Lexing.{blanks_passed, token_next}
-use Rattle.json_text.proofs.Turns.{took_more, not_blank}
+use Rattle.json_text.specs.Grammar.{object_value}
+use Rattle.json_text.specs.Lex.{token_at, tokens_from, tokens}
+use Rattle.json_text.specs.Machine.{Place, Slot, whole, element_of, member_of, want, first_element, after_element, first_name, name_of, colon_of, after_member, complete, State, more, done, fault, Step, step, End, built, run, trees, start, deliver, opened}
+use Rattle.json_text.specs.Ahead.{unblanked, scalar_value, IsFirst, IsScalar, IsScalarToken, next_element_place, next_member_place, delivered, GoesOn, IsValue, Closes}
+use Rattle.json_text.specs.Faults.{too_deep}
+use Rattle.json_text.proofs.Turns.{took_more, took_done}
 
 abbrev Levels : Type 0
 Levels = List (Slot Tree)
@@ -17,44 +20,70 @@ Levels = List (Slot Tree)
 abbrev at_place : Levels → Place Tree → State Tree
 at_place outer place = record { outer = outer; place = place }
 
-pub goes_nowhere : (p : Place Tree) (bs : List ℕ) → GoesOn p bs p bs
-goes_nowhere p bs = record {
+pub goes_nowhere : (l : ℕ) (p : Place Tree) (bs : List ℕ) → GoesOn l p bs p bs
+goes_nowhere l p bs = record {
   shorter = omega arith;
-  same = λ outer at. let none : at ≡ at + (length bs - length bs) = omega arith in ap (λ n. run trees (at_place outer p) (tokens_from 0 n bs)) none;
+  same = λ outer at _. let none : at ≡ at + (length bs - length bs) = omega arith in ap (λ n. run trees (at_place outer p) (tokens_from 0 n bs)) none;
 }
 
-pub goes_then : {p q r : Place Tree} {a b c : List ℕ} → GoesOn p a q b → GoesOn q b r c → GoesOn p a r c
-goes_then {p} {q} {r} {a} {b} {c} g h = record {
+pub goes_then : {l : ℕ} {p q r : Place Tree} {a b c : List ℕ} → GoesOn l p a q b → GoesOn l q b r c → GoesOn l p a r c
+goes_then {l} {p} {q} {r} {a} {b} {c} g h = record {
   shorter = omega (arith, g.shorter, h.shorter);
-  same = λ outer at.
+  same = λ outer at room.
       let sum : at + (length a - length b) + (length b - length c) ≡ at + (length a - length c) = omega (arith, g.shorter, h.shorter) in
-      g.same outer at ∙ h.same outer (at + (length a - length b)) ∙ ap (λ n. run trees (at_place outer r) (tokens_from 0 n c)) sum;
+      g.same outer at room ∙ h.same outer (at + (length a - length b)) room ∙ ap (λ n. run trees (at_place outer r) (tokens_from 0 n c)) sum;
 }
 
 -- one token
-pub goes_one : (p q : Place Tree) (bs rest : List ℕ) (t : Token) → IsFirst bs t rest → ((outer : Levels) → step trees (at_place outer p) t ≡ more (at_place outer q)) → GoesOn p bs q rest
-goes_one p q bs rest t first by = record {
+goes_one : (l : ℕ) (p q : Place Tree) (bs rest : List ℕ) (t : Token) → IsFirst bs t rest → ((outer : Levels) → step trees (at_place outer p) t ≡ more (at_place outer q)) → GoesOn l p bs q rest
+goes_one l p q bs rest t first by = record {
   shorter = omega (arith, (took_more trees (at_place [] p) 0 bs t rest first (at_place [] q) (by [])).0);
-  same = λ outer at. (took_more trees (at_place outer p) at bs t rest first (at_place outer q) (by outer)).1;
+  same = λ outer at _. (took_more trees (at_place outer p) at bs t rest first (at_place outer q) (by outer)).1;
 }
 
-by_name : (ms : List (List ℕ × Tree)) (n bs rest : List ℕ) → IsFirst bs (string n) rest → GoesOn (name_of ms) bs (colon_of ms n) rest
-unfolding step
-by_name ms n bs rest e = goes_one (name_of ms) (colon_of ms n) bs rest (string n) e (λ outer. refl)
+-- a token is shorter than what it begins
+first_shorter : (p q : Place Tree) (bs rest : List ℕ) (t : Token) → IsFirst bs t rest → step trees (at_place [] p) t ≡ more (at_place [] q) → length rest < length bs
+first_shorter p q bs rest t first by = (took_more trees (at_place [] p) 0 bs t rest first (at_place [] q) by).0
 
-by_colon : (ms : List (List ℕ × Tree)) (n bs rest : List ℕ) → IsFirst bs name_separator rest → GoesOn (colon_of ms n) bs (want (member_of ms n)) rest
-unfolding step
-by_colon ms n bs rest e = goes_one (colon_of ms n) (want (member_of ms n)) bs rest name_separator e (λ outer. refl)
+-- ---- names and separators
 
-by_comma : (ms : List (List ℕ × Tree)) (bs rest : List ℕ) → IsFirst bs value_separator rest → GoesOn (after_member ms) bs (name_of ms) rest
+by_first_name : (l : ℕ) (n bs rest : List ℕ) → IsFirst bs (string n) rest → GoesOn l first_name bs (colon_of [] n) rest
 unfolding step
-by_comma ms bs rest e = goes_one (after_member ms) (name_of ms) bs rest value_separator e (λ outer. refl)
+by_first_name l n bs rest e = goes_one l first_name (colon_of [] n) bs rest (string n) e (λ outer. refl)
 
-by_element_comma : (vs : List Tree) (bs rest : List ℕ) → IsFirst bs value_separator rest → GoesOn (after_element vs) bs (want (element_of vs)) rest
+by_later_name : (l : ℕ) (ms : List (List ℕ × Tree)) (n bs rest : List ℕ) → IsFirst bs (string n) rest → GoesOn l (name_of ms) bs (colon_of ms n) rest
 unfolding step
-by_element_comma vs bs rest e = goes_one (after_element vs) (want (element_of vs)) bs rest value_separator e (λ outer. refl)
+by_later_name l ms n bs rest e = goes_one l (name_of ms) (colon_of ms n) bs rest (string n) e (λ outer. refl)
 
-scalar_step : (t : Token) (v : Tree) (slot : Slot Tree) (outer : Levels) → scalar_value t ≡ Some v → step_value trees outer slot t ≡ deliver trees v slot outer
+by_name : (l : ℕ) (ms : List (List ℕ × Tree)) (n bs rest : List ℕ) → IsFirst bs (string n) rest → GoesOn l (next_member_place ms) bs (colon_of ms n) rest
+by_name l [] n bs rest e = by_first_name l n bs rest e
+by_name l (m ∷ ms) n bs rest e = by_later_name l (m ∷ ms) n bs rest e
+
+by_colon : (l : ℕ) (ms : List (List ℕ × Tree)) (n bs rest : List ℕ) → IsFirst bs name_separator rest → GoesOn l (colon_of ms n) bs (want (member_of ms n)) rest
+unfolding step
+by_colon l ms n bs rest e = goes_one l (colon_of ms n) (want (member_of ms n)) bs rest name_separator e (λ outer. refl)
+
+by_comma : (l : ℕ) (ms : List (List ℕ × Tree)) (bs rest : List ℕ) → IsFirst bs value_separator rest → GoesOn l (after_member ms) bs (name_of ms) rest
+unfolding step
+by_comma l ms bs rest e = goes_one l (after_member ms) (name_of ms) bs rest value_separator e (λ outer. refl)
+
+by_element_comma : (l : ℕ) (vs : List Tree) (bs rest : List ℕ) → IsFirst bs value_separator rest → GoesOn l (after_element vs) bs (want (element_of vs)) rest
+unfolding step
+by_element_comma l vs bs rest e = goes_one l (after_element vs) (want (element_of vs)) bs rest value_separator e (λ outer. refl)
+
+pub comma_shorter : (bs rest : List ℕ) → IsFirst bs value_separator rest → length rest < length bs
+unfolding step
+comma_shorter bs rest e = first_shorter (after_element []) (want (element_of [])) bs rest value_separator e refl
+
+-- ---- scalars
+
+delivers : (v : Tree) (slot : Slot Tree) (outer : Levels) → deliver trees v slot outer ≡ more (at_place outer (delivered v slot))
+delivers v whole outer = refl
+delivers v (element_of vs) outer = refl
+delivers v (member_of ms n) outer = refl
+
+scalar_step : (t : Token) (v : Tree) (slot : Slot Tree) (outer : Levels) → scalar_value t ≡ Some v → step trees (at_place outer (want slot)) t ≡ deliver trees v slot outer
+unfolding step
 scalar_step (string s) v slot outer e = ap (λ v. deliver trees v slot outer) (Prim.cc e)
 scalar_step (number (Some n)) v slot outer e = ap (λ v. deliver trees v slot outer) (Prim.cc e)
 scalar_step (boolean b) v slot outer e = ap (λ v. deliver trees v slot outer) (Prim.cc e)
@@ -69,85 +98,8 @@ scalar_step value_separator v slot outer e = Prim.cc e
 scalar_step end v slot outer e = Prim.cc e
 scalar_step malformed v slot outer e = Prim.cc e
 
-first_is : (bs : List ℕ) (v : Tree) (rest : List ℕ) → IsScalar bs v rest → IsFirst bs (token_at (unblanked bs)).0 rest
-first_is bs v rest s = ap (λ r. ((token_at (unblanked bs)).0, r)) (sym s.1)
-
-by_scalar : (ms : List (List ℕ × Tree)) (n : List ℕ) (v : Tree) (bs rest : List ℕ) → IsScalar bs v rest → GoesOn (want (member_of ms n)) bs (after_member (put_member n v ms)) rest
+first_step : (t : Token) (v : Tree) (outer : Levels) → scalar_value t ≡ Some v → step trees (at_place outer first_element) t ≡ deliver trees v (element_of []) outer
 unfolding step
-by_scalar ms n v bs rest s = goes_one (want (member_of ms n)) (after_member (put_member n v ms)) bs rest _ (first_is bs v rest s) (λ outer. scalar_step (token_at (unblanked bs)).0 v (member_of ms n) outer s.0)
-
-pub by_element : (vs : List Tree) (v : Tree) (bs rest : List ℕ) → IsScalar bs v rest → GoesOn (want (element_of vs)) bs (after_element (vs ++ v ∷ [])) rest
-unfolding step
-by_element vs v bs rest s = goes_one (want (element_of vs)) (after_element (vs ++ v ∷ [])) bs rest _ (first_is bs v rest s) (λ outer. scalar_step (token_at (unblanked bs)).0 v (element_of vs) outer s.0)
-
--- ---- a member
-
-pub member_named : (ms : List (List ℕ × Tree)) (n bs named : List ℕ) → IsFirst bs (string n) named → GoesOn (name_of ms) bs (colon_of ms n) named
-member_named = by_name
-
-pub member_wanting : (ms : List (List ℕ × Tree)) (n bs named wanting : List ℕ) → IsFirst bs (string n) named → IsFirst named name_separator wanting
-    → GoesOn (name_of ms) bs (want (member_of ms n)) wanting
-member_wanting ms n bs named wanting a b = goes_then (by_name ms n bs named a) (by_colon ms n named wanting b)
-
-pub member_whole : (ms new : List (List ℕ × Tree)) (n : List ℕ) (v : Tree) (bs named wanting rest : List ℕ) → IsFirst bs (string n) named → IsFirst named name_separator wanting
-    → IsScalar wanting v rest → new ≡ put_member n v ms → GoesOn (name_of ms) bs (after_member new) rest
-member_whole ms new n v bs named wanting rest a b s e =
-    subst (λ l. GoesOn (name_of ms) bs (after_member l) rest) (sym e) (goes_then (member_wanting ms n bs named wanting a b) (by_scalar ms n v wanting rest s))
-
--- ---- several
-
-pub next_member : {p : Place Tree} {ms new : List (List ℕ × Tree)} {bs a b c : List ℕ} → GoesOn p bs (name_of ms) a → GoesOn (name_of ms) a (after_member new) b → IsFirst b value_separator c
-    → GoesOn p bs (name_of new) c
-next_member {p} {ms} {new} {bs} {a} {b} {c} g h e = goes_then (goes_then g h) (by_comma new b c e)
-
-pub next_element : {p : Place Tree} {vs new : List Tree} {v : Tree} {bs a b c : List ℕ} → GoesOn p bs (want (element_of vs)) a → IsScalar a v b → new ≡ vs ++ v ∷ [] → IsFirst b value_separator c
-    → GoesOn p bs (want (element_of new)) c
-next_element {p} {vs} {new} {v} {bs} {a} {b} {c} g s is e =
-    goes_then (goes_then g (subst (λ l. GoesOn (want (element_of vs)) a (after_element l) b) (sym is) (by_element vs v a b s))) (by_element_comma new b c e)
-
-pub last_element : {p : Place Tree} {vs new : List Tree} {v : Tree} {bs a b : List ℕ} → GoesOn p bs (want (element_of vs)) a → IsScalar a v b → new ≡ vs ++ v ∷ [] → GoesOn p bs (after_element new) b
-last_element {p} {vs} {new} {v} {bs} {a} {b} g s is = goes_then g (subst (λ l. GoesOn (want (element_of vs)) a (after_element l) b) (sym is) (by_element vs v a b s))
-
-pub after_member_comma : {ms : List (List ℕ × Tree)} {q : Place Tree} {bs a b : List ℕ} → IsFirst bs value_separator a → GoesOn (name_of ms) a q b → GoesOn (after_member ms) bs q b
-after_member_comma {ms} {q} {bs} {a} {b} e g = goes_then (by_comma ms bs a e) g
-
-pub after_element_comma : {vs : List Tree} {q : Place Tree} {bs a b : List ℕ} → IsFirst bs value_separator a → GoesOn (want (element_of vs)) a q b → GoesOn (after_element vs) bs q b
-after_element_comma {vs} {q} {bs} {a} {b} e g = goes_then (by_element_comma vs bs a e) g
-
--- a token is shorter than what it begins
-pub first_shorter : (bs rest : List ℕ) → IsFirst bs value_separator rest → length rest < length bs
-unfolding step
-first_shorter bs rest e = (took_more trees (at_place [] (after_element [])) 0 bs value_separator rest e (at_place [] (want (element_of []))) refl).0
-
--- ---- the first part
-
-some_first : (at : ℕ) (bs f : List ℕ) → unblanked bs ≡ f → (ts : List Placed) × (n : ℕ) × (tokens_from 0 at f ≡ record { at = n; token = (token_at f).0 } ∷ ts)
-unfolding tokens_from token_at
-some_first at bs [] e = ([], at, refl)
-some_first at bs (x ∷ xs) e = (_, at, token_next x xs at (not_blank bs x xs e))
-
--- two places that the first token leaves alike
-alike : (p q : Place Tree) (bs : List ℕ) → ((outer : Levels) → step trees (at_place outer p) (token_at (unblanked bs)).0 ≡ step trees (at_place outer q) (token_at (unblanked bs)).0) → GoesOn p bs q bs
-unfolding run
-alike p q bs h = record {
-  shorter = omega arith;
-  same = λ outer at.
-      let none : at ≡ at + (length bs - length bs) = omega arith in
-      let first = some_first (at + _) bs (unblanked bs) refl in
-      let ts : tokens_from 0 at bs ≡ record { at = first.1; token = (token_at (unblanked bs)).0 } ∷ first.0 = blanks_passed bs at ∙ first.2 in
-      ap (run trees (at_place outer p)) ts ∙ ap (λ st. then_run st first.1 (λ next. run trees next first.0)) (h outer) ∙ ap (run trees (at_place outer q)) (sym ts) ∙ ap (λ n. run trees (at_place outer q) (tokens_from 0 n bs)) none;
-}
-
-string_alike : (o : Option (List ℕ × List ℕ)) (outer : Levels) → step trees (at_place outer first_name) (string_token o).0 ≡ step trees (at_place outer (name_of [])) (string_token o).0
-unfolding step
-string_alike None outer = refl
-string_alike (Some p) outer = refl
-
-pub name_begins : (bs rest : List ℕ) → unblanked bs ≡ 34 ∷ rest → GoesOn first_name bs (name_of []) bs
-unfolding token_at
-name_begins bs rest e = alike first_name (name_of []) bs (λ outer. subst (λ l. step trees (at_place outer first_name) (token_at l).0 ≡ step trees (at_place outer (name_of [])) (token_at l).0) (sym e) (string_alike (string_at plain rest) outer))
-
-first_step : (t : Token) (v : Tree) (outer : Levels) → scalar_value t ≡ Some v → step_first_element trees outer t ≡ deliver trees v (element_of []) outer
 first_step (string s) v outer e = scalar_step (string s) v (element_of []) outer e
 first_step (number n) v outer e = scalar_step (number n) v (element_of []) outer e
 first_step (boolean b) v outer e = scalar_step (boolean b) v (element_of []) outer e
@@ -161,28 +113,134 @@ first_step value_separator v outer e = Prim.cc e
 first_step end v outer e = Prim.cc e
 first_step malformed v outer e = Prim.cc e
 
-by_first : (v : Tree) (bs rest : List ℕ) → IsScalar bs v rest → GoesOn first_element bs (after_element (v ∷ [])) rest
+first_is : (bs : List ℕ) (v : Tree) (rest : List ℕ) → IsScalar bs v rest → IsFirst bs (token_at (unblanked bs)).0 rest
+first_is bs v rest s = ap (λ r. ((token_at (unblanked bs)).0, r)) (sym s.1)
+
+pub scalar_is_value : (l : ℕ) (bs : List ℕ) (v : Tree) (rest : List ℕ) → IsScalar bs v rest → IsValue l bs v rest
+scalar_is_value l bs v rest s =
+    let t = (token_at (unblanked bs)).0 in
+    let first = first_is bs v rest s in
+    let by = λ (slot : Slot Tree) (outer : Levels). scalar_step t v slot outer s.0 ∙ delivers v slot outer in record {
+      shorter = first_shorter (want whole) (complete v) bs rest t first (by whole []);
+      goes = λ slot. goes_one l (want slot) (delivered v slot) bs rest t first (by slot);
+      first = goes_one l first_element (after_element (v ∷ [])) bs rest t first (λ outer. first_step t v outer s.0 ∙ delivers v (element_of []) outer);
+    }
+
+pub from_front : (l : ℕ) (bs front : List ℕ) (v : Tree) (rest : List ℕ) → front ≡ unblanked bs → IsScalarToken (token_at front) v rest → IsValue l bs v rest
+from_front l bs front v rest e s = scalar_is_value l bs v rest (subst (λ f. IsScalarToken (token_at f) v rest) e s)
+
+-- ---- elements and members
+
+pub element_more : {l : ℕ} {p : Place Tree} {v : Tree} {bs a b : List ℕ} (vs new : List Tree) → GoesOn l p bs (next_element_place vs) a → IsValue l a v b → new ≡ vs ++ v ∷ [] → GoesOn l p bs (after_element new) b
+element_more {l} {p} {v} {bs} {a} {b} [] new g is e = subst (λ n. GoesOn l p bs (after_element n) b) (sym e) (goes_then g is.first)
+element_more {l} {p} {v} {bs} {a} {b} (w ∷ ws) new g is e = subst (λ n. GoesOn l p bs (after_element n) b) (sym e) (goes_then g (is.goes (element_of (w ∷ ws))))
+
+some_element : (vs : List Tree) (v : Tree) → want (element_of (vs ++ v ∷ [])) ≡ next_element_place (vs ++ v ∷ [])
+some_element [] v = refl
+some_element (w ∷ ws) v = refl
+
+pub element_next : {l : ℕ} {p : Place Tree} {v : Tree} {bs a b c : List ℕ} (vs new : List Tree) → GoesOn l p bs (next_element_place vs) a → IsValue l a v b → new ≡ vs ++ v ∷ [] → IsFirst b value_separator c
+    → GoesOn l p bs (next_element_place new) c
+element_next {l} {p} {v} {bs} {a} {b} {c} vs new g is e comma =
+    let place : want (element_of new) ≡ next_element_place new = ap (λ n. want (element_of n)) e ∙ some_element vs v ∙ ap next_element_place (sym e) in
+    subst (λ q. GoesOn l p bs q c) place (goes_then (element_more vs new g is e) (by_element_comma l new b c comma))
+
+pub member_is : (l : ℕ) (ms new : List (List ℕ × Tree)) (n : List ℕ) (v : Tree) (bs named wanting rest : List ℕ) → IsFirst bs (string n) named → IsFirst named name_separator wanting
+    → IsValue l wanting v rest → new ≡ put_member n v ms → GoesOn l (next_member_place ms) bs (after_member new) rest
+member_is l ms new n v bs named wanting rest a b is e =
+    subst (λ m. GoesOn l (next_member_place ms) bs (after_member m) rest) (sym e)
+    (goes_then (goes_then (by_name l ms n bs named a) (by_colon l ms n named wanting b)) (is.goes (member_of ms n)))
+
+pub put_some : (n : List ℕ) (v : Tree) (ms : List (List ℕ × Tree)) → 0 < length (put_member n v ms)
+put_some n v [] = omega arith
+put_some n v (m ∷ ms) = by (bytes_eq m.0 n)
+  where
+    by : (b : Bool) → 0 < length (cond b ((m.0, v) ∷ ms) (m ∷ put_member n v ms))
+    by true = omega arith
+    by false = omega arith
+
+pub member_next : {l : ℕ} {p : Place Tree} {bs a b c : List ℕ} (ms new : List (List ℕ × Tree)) → GoesOn l p bs (next_member_place ms) a → GoesOn l (next_member_place ms) a (after_member new) b → 0 < length new → IsFirst b value_separator c
+    → GoesOn l p bs (next_member_place new) c
+member_next {l} {p} {bs} {a} {b} {c} ms [] g h some comma = absurd (omega arith)
+member_next {l} {p} {bs} {a} {b} {c} ms (m ∷ new) g h some comma = goes_then (goes_then g h) (by_comma l (m ∷ new) b c comma)
+
+-- ---- brackets
+
+-- the token opens a level
+pub opening : (l : ℕ) (t : Token) (inner : Place Tree) (bs a : List ℕ) (v : Tree) (rest : List ℕ) → ((slot : Slot Tree) (outer : Levels) → step trees (at_place outer (want slot)) t ≡ opened trees slot outer inner)
+    → ((outer : Levels) → step trees (at_place outer first_element) t ≡ opened trees (element_of []) outer inner) → 0 < l → IsFirst bs t a → Closes inner (l - 1) a v rest → IsValue l bs v rest
+opening l t inner bs a v rest wanted first some e c =
+    let opens = λ (slot : Slot Tree) (outer : Levels) (room : length outer < 32). let yes : opened trees slot outer inner ≡ more (at_place (slot ∷ outer) inner) = ap (λ b. cond b (more (at_place (slot ∷ outer) inner)) (fault too_deep)) (lt-ltb (length outer) 32 room) in yes in
+    let shorter : length a < length bs = (took_more trees (at_place [] (want whole)) 0 bs t a e (at_place (whole ∷ []) inner) (wanted whole [] ∙ opens whole [] (omega arith))).0 in
+    let runs = λ (p : Place Tree) (slot : Slot Tree) (by : (outer : Levels) → step trees (at_place outer p) t ≡ opened trees slot outer inner) (outer : Levels) (at : ℕ) (room : length outer + l ≤ 32).
+    let low : length outer < 32 = omega arith in
+    let below : length outer + suc (l - 1) ≤ 32 = omega arith in
+    let sum : at + (length bs - length a) + (length a - length rest) ≡ at + (length bs - length rest) = omega (arith, shorter, c.shorter) in
+    let all : run trees (at_place outer p) (tokens_from 0 at bs) ≡ run trees (at_place outer (delivered v slot)) (tokens_from 0 (at + (length bs - length rest)) rest) =
+    (took_more trees (at_place outer p) at bs t a e (at_place (slot ∷ outer) inner) (by outer ∙ opens slot outer low)).1
+    ∙ c.same slot outer (at + (length bs - length a)) below ∙ ap (λ n. run trees (at_place outer (delivered v slot)) (tokens_from 0 n rest)) sum in
+    all in
+    record {
+      shorter = omega (arith, shorter, c.shorter);
+      goes = λ slot. record { shorter = omega (arith, shorter, c.shorter); same = runs (want slot) slot (wanted slot) };
+      first = record { shorter = omega (arith, shorter, c.shorter); same = runs first_element (element_of []) first };
+    }
+
+pub list_opens : (l : ℕ) (bs a : List ℕ) (v : Tree) (rest : List ℕ) → 0 < l → IsFirst bs begin_array a → Closes first_element (l - 1) a v rest → IsValue l bs v rest
 unfolding step
-by_first v bs rest s = goes_one first_element (after_element (v ∷ [])) bs rest _ (first_is bs v rest s) (λ outer. first_step (token_at (unblanked bs)).0 v outer s.0)
+list_opens l bs a v rest some e c = opening l begin_array first_element bs a v rest (λ slot outer. refl) (λ outer. refl) some e c
 
-pub only_element : (new : List Tree) (v : Tree) (bs rest : List ℕ) → IsScalar bs v rest → new ≡ v ∷ [] → GoesOn first_element bs (after_element new) rest
-only_element new v bs rest s is = subst (λ l. GoesOn first_element bs (after_element l) rest) (sym is) (by_first v bs rest s)
+pub object_opens : (l : ℕ) (bs a : List ℕ) (v : Tree) (rest : List ℕ) → 0 < l → IsFirst bs begin_object a → Closes first_name (l - 1) a v rest → IsValue l bs v rest
+unfolding step
+object_opens l bs a v rest some e c = opening l begin_object first_name bs a v rest (λ slot outer. refl) (λ outer. refl) some e c
 
-pub first_of_several : (new : List Tree) (v : Tree) (q : Place Tree) (bs a b c : List ℕ) → IsScalar bs v a → new ≡ v ∷ [] → IsFirst a value_separator b → GoesOn (want (element_of new)) b q c → GoesOn first_element bs q c
-first_of_several new v q bs a b c s is e g = goes_then (goes_then (only_element new v bs a s is) (by_element_comma new a b e)) g
+-- the token closes a level
+closing : (l : ℕ) (from last : Place Tree) (t : Token) (bs a : List ℕ) (v : Tree) (rest : List ℕ) → ((slot : Slot Tree) (outer : Levels) → step trees (at_place (slot ∷ outer) last) t ≡ deliver trees v slot outer)
+    → GoesOn l from bs last a → IsFirst a t rest → Closes from l bs v rest
+closing l from last t bs a v rest by g e =
+    let shorter : length rest < length a = (took_more trees (at_place (whole ∷ []) last) 0 a t rest e (at_place [] (delivered v whole)) (by whole [] ∙ delivers v whole [])).0 in record {
+      shorter = omega (arith, shorter, g.shorter);
+      same = λ slot outer at room.
+          let inside : length (slot ∷ outer) + l ≤ 32 = omega arith in
+          let sum : at + (length bs - length a) + (length a - length rest) ≡ at + (length bs - length rest) = omega (arith, shorter, g.shorter) in
+          g.same (slot ∷ outer) at inside
+          ∙ (took_more trees (at_place (slot ∷ outer) last) (at + (length bs - length a)) a t rest e (at_place outer (delivered v slot)) (by slot outer ∙ delivers v slot outer)).1
+          ∙ ap (λ n. run trees (at_place outer (delivered v slot)) (tokens_from 0 n rest)) sum;
+    }
 
--- the run of a whole text, after going ahead
-pub went_ahead : (total : ℕ) (outer : Levels) (p q : Place Tree) (rest next : List ℕ) (e : End Tree) → length rest ≤ total → GoesOn p rest q next
-    → run trees (at_place outer p) (tokens_from 0 (total - length rest) rest) ≡ e → (length next ≤ total) × (run trees (at_place outer q) (tokens_from 0 (total - length next) next) ≡ e)
-went_ahead total outer p q rest next e within g same =
-    let at : total - length next ≡ total - length rest + (length rest - length next) = omega (arith, within, g.shorter) in
-    (omega (arith, within, g.shorter), ap (λ n. run trees (at_place outer q) (tokens_from 0 n next)) at ∙ sym (g.same outer (total - length rest)) ∙ same)
+pub list_closes : (l : ℕ) (vs : List Tree) (bs a rest : List ℕ) → GoesOn l first_element bs (after_element vs) a → IsFirst a end_array rest → Closes first_element l bs (list (tree.elements_of vs)) rest
+unfolding step
+list_closes l vs bs a rest g e = closing l first_element (after_element vs) end_array bs a (list (tree.elements_of vs)) rest (λ slot outer. refl) g e
+
+pub list_empty : (l : ℕ) (bs rest : List ℕ) → IsFirst bs end_array rest → Closes first_element l bs (list (tree.elements_of [])) rest
+unfolding step
+list_empty l bs rest e = closing l first_element first_element end_array bs bs (list (tree.elements_of [])) rest (λ slot outer. refl) (goes_nowhere l first_element bs) e
+
+pub object_closes : (l : ℕ) (ms : List (List ℕ × Tree)) (v : Tree) (bs a rest : List ℕ) → v ≡ object_value ms → GoesOn l first_name bs (after_member ms) a → IsFirst a end_object rest → Closes first_name l bs v rest
+unfolding step
+object_closes l ms v bs a rest is g e = subst (λ w. Closes first_name l bs w rest) (sym is) (closing l first_name (after_member ms) end_object bs a (object_value ms) rest (λ slot outer. refl) g e)
+
+pub object_empty : (l : ℕ) (v : Tree) (bs rest : List ℕ) → v ≡ object_value [] → IsFirst bs end_object rest → Closes first_name l bs v rest
+unfolding step
+object_empty l v bs rest is e = subst (λ w. Closes first_name l bs w rest) (sym is) (closing l first_name first_name end_object bs bs (object_value []) rest (λ slot outer. refl) (goes_nowhere l first_name bs) e)
+
+pub opening_bracket : (bs front rest : List ℕ) (x : ℕ) → front ≡ unblanked bs → front ≡ x ∷ rest → x ≡ 91 → IsFirst bs begin_array rest
+unfolding token_at
+opening_bracket bs front rest x a b e = sym (ap token_at (sym a ∙ b ∙ ap (λ y. y ∷ rest) e))
+
+pub opening_brace : (bs front rest : List ℕ) (x : ℕ) → front ≡ unblanked bs → front ≡ x ∷ rest → x ≡ 123 → IsFirst bs begin_object rest
+unfolding token_at
+opening_brace bs front rest x a b e = sym (ap token_at (sym a ∙ b ∙ ap (λ y. y ∷ rest) e))
 
 -- what holds of a value that was read
-pub then_ok : {A E : Type 0} {P Q : A → Type 0} (r : Result A E) → ((x : A) → P x → Q x) → IfOk r P → IfOk r Q
-then_ok (Ok x) f h = f x h
-then_ok (Err e) f h = tt
+pub then_some : {A : Type 0} {P Q : A → Type 0} (r : Option A) → ((x : A) → P x → Q x) → IfSome r P → IfSome r Q
+then_some (Some x) f h = f x h
+then_some None f h = tt
 
-pub ruleset member_laws = (goes_nowhere, member_named, member_wanting, member_whole)
+-- ---- a whole text
 
-pub ruleset run_laws = (goes_nowhere, goes_then, next_member, next_element, last_element, after_member_comma, after_element_comma, only_element, first_of_several, first_shorter)
+pub whole_value : (bs : List ℕ) (v : Tree) (rest : List ℕ) → IsValue 32 bs v rest → unblanked rest ≡ [] → run trees start (tokens bs) ≡ built v
+unfolding step token_at
+whole_value bs v rest is e =
+    let ended : IsFirst rest end [] = sym (ap token_at e) in
+    (is.goes whole).same [] 0 (omega arith) ∙ took_done trees (at_place [] (complete v)) (0 + (length bs - length rest)) rest end [] ended v refl

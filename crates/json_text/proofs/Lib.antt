@@ -33,3 +33,4 @@ pub mod Kept
 pub mod Short
 pub mod NumeralParts
 pub mod ContentPieces
+pub mod Blocks

@@ -43,7 +43,7 @@ run_front p w rest a s = ap (λ n. take n (w ++ rest)) (run_stops p w rest a s) 
 pub run_rest : (p : ℕ → Bool) (w rest : List ℕ) → list_all p w ≡ true → StopsAt p rest → drop (prefix_len p (w ++ rest)) (w ++ rest) ≡ rest
 run_rest p w rest a s = ap (λ n. drop n (w ++ rest)) (run_stops p w rest a s) ∙ drop-append_seam w rest
 
-all_both : (p : ℕ → Bool) (xs ys : List ℕ) → list_all p xs ≡ true → list_all p ys ≡ true → list_all p (xs ++ ys) ≡ true
+pub all_both : (p : ℕ → Bool) (xs ys : List ℕ) → list_all p xs ≡ true → list_all p ys ≡ true → list_all p (xs ++ ys) ≡ true
 all_both p xs ys a b = list_all-append p xs ys ∙ ap₂ (λ x y. x && y) a b
 
 pub all_more : (p q : ℕ → Bool) (xs : List ℕ) → ((x : ℕ) → p x ≡ true → q x ≡ true) → list_all p xs ≡ true → list_all q xs ≡ true
@@ -157,7 +157,7 @@ trimmed_is (suc k) n h = trimmed_step k n h (trimmed_is k (n / 10) (tenth_below 
 
 -- ---- a magnitude
 
-point_stops : (ds : List ℕ) → StopsAt is_ascii_digit (with_point ds)
+pub point_stops : (ds : List ℕ) → StopsAt is_ascii_digit (with_point ds)
 point_stops [] = tt
 point_stops (d ∷ ds) = refl
 
@@ -167,12 +167,16 @@ no_more ds h = (
   ap after_digits (sym (append-nil ds)) ∙ run_rest is_ascii_digit ds [] h tt,
 )
 
-fraction_point : (ds : List ℕ) → list_all is_ascii_digit ds ≡ true → fraction_at (with_point ds) ≡ Some (ds, [])
+pub fraction_point : (ds : List ℕ) → list_all is_ascii_digit ds ≡ true → fraction_at (with_point ds) ≡ Some (ds, [])
 fraction_point [] h = refl
 fraction_point (d ∷ ds) h = let n = no_more (d ∷ ds) h in ap₂ (λ f r. if_some f (Some (f, r))) n.0 n.1
 
-fraction_power : (n : ℕ) → n ≤ 18 → pos 0 -ℤ pos n +ℤ pos 18 ≡ pos (18 - n)
+pub fraction_power : (n : ℕ) → n ≤ 18 → pos 0 -ℤ pos n +ℤ pos 18 ≡ pos (18 - n)
 fraction_power n h = omega (arith, ints)
+
+pub all_point : (ds : List ℕ) → list_all is_ascii_digit ds ≡ true → list_all is_numeral_byte (with_point ds) ≡ true
+all_point [] h = refl
+all_point (d ∷ ds) h = all_more is_ascii_digit is_numeral_byte (d ∷ ds) digit_in_numeral h
 
 module _ (n : ℕ) (small : n < 10 ^ 38) where
   below : n / 10 ^ 18 < 10 ^ 64
@@ -208,10 +212,6 @@ module _ (n : ℕ) (small : n < 10 ^ 38) where
 
   magnitude_parts : magnitude_text n ≡ first ∷ more
   magnitude_parts = ap (λ l. l ++ with_point (trimmed 18 (n % 10 ^ 18))) in_whole.is
-
-  all_point : (ds : List ℕ) → list_all is_ascii_digit ds ≡ true → list_all is_numeral_byte (with_point ds) ≡ true
-  all_point [] h = refl
-  all_point (d ∷ ds) h = all_more is_ascii_digit is_numeral_byte (d ∷ ds) digit_in_numeral h
 
   all_magnitude : list_all is_numeral_byte (magnitude_text n) ≡ true
   all_magnitude = all_both is_numeral_byte (decimal (n / 10 ^ 18)) (with_point (trimmed 18 (n % 10 ^ 18))) (all_more is_ascii_digit is_numeral_byte (decimal (n / 10 ^ 18)) digit_in_numeral in_whole.digits) (all_point (trimmed 18 (n % 10 ^ 18)) in_fraction.digits)

@@ -1,13 +1,12 @@
--- Where a run stands after some tokens more. Only the crate's private clauses cite it.
-use Rattle.std.specs.Prelude.{◌≡◌, ℕ, ◌+◌, ◌-◌, ◌≤◌, List, drop, length, Option, Some, None}
+-- Where a run stands after some tokens more, and a value's tokens. Only the crate's private clauses cite it.
+use Rattle.std.specs.Prelude.{◌≡◌, ℕ, suc, ◌+◌, ◌-◌, ◌<◌, ◌≤◌, List, [], ◌∷◌, ◌++◌, drop, length, Option, Some, None}
 use Rattle.std.specs.List.{prefix_len}
 use Rattle.json_tree.specs.Tree.{Tree}
 use Rattle.json_tree.specs.Tree as tree
+use Rattle.json_tree.specs.Members.{put_member}
 use Rattle.json_text.specs.Token.{Token, string, number, boolean, null}
 use Rattle.json_text.specs.Lex.{is_blank, Read, token_at, tokens_from}
-use Rattle.json_text.specs.Machine.{Place, Slot, want, member_of, name_of, colon_of, after_member, run, trees}
-use Rattle.json_text.specs.declared.scalars.Stop.{Stop}
-use Rattle.json_text.specs.declared.scalars.Stop.TheVariants as stops
+use Rattle.json_text.specs.Machine.{Place, Slot, whole, element_of, member_of, want, first_element, after_element, first_name, name_of, after_member, complete, run, trees}
 
 abbrev pub unblanked : List ℕ → List ℕ
 unblanked bytes = drop (prefix_len is_blank bytes) bytes
@@ -31,15 +30,35 @@ IsScalarToken read v rest = (scalar_value read.0 ≡ Some v) × (read.1 ≡ rest
 abbrev pub IsScalar : List ℕ → Tree → List ℕ → Type 0
 IsScalar bytes v rest = IsScalarToken (token_at (unblanked bytes)) v rest
 
--- where a member stopped, after members before it
-abbrev pub stopped_at : Stop → List (List ℕ × Tree) → Place Tree
-stopped_at stops.AtName ms = name_of ms
-stopped_at (stops.AtColon n) ms = colon_of ms n
-stopped_at (stops.AtValue n) ms = want (member_of ms n)
-stopped_at stops.AtEnd ms = after_member ms
+-- where a list or an object stands that has these elements or members, and wants one more
+abbrev pub next_element_place : List Tree → Place Tree
+next_element_place [] = first_element
+next_element_place (v ∷ vs) = want (element_of (v ∷ vs))
 
--- At any offset and inside of any levels, a run from this place over these bytes goes on as one from that place over the rest.
-pub record GoesOn (from : Place Tree) (bytes : List ℕ) (to : Place Tree) (rest : List ℕ) : Type 0 where
+abbrev pub next_member_place : List (List ℕ × Tree) → Place Tree
+next_member_place [] = first_name
+next_member_place (m ∷ ms) = name_of (m ∷ ms)
+
+-- where a value was put
+abbrev pub delivered : Tree → Slot Tree → Place Tree
+delivered v whole = complete v
+delivered v (element_of vs) = after_element (vs ++ v ∷ [])
+delivered v (member_of ms n) = after_member (put_member n v ms)
+
+-- At any offset, and inside of any levels that leave so many free, a run from this place over these bytes goes on as one from that place over the rest.
+pub record GoesOn (levels : ℕ) (from : Place Tree) (bytes : List ℕ) (to : Place Tree) (rest : List ℕ) : Type 0 where
   pub shorter : length rest ≤ length bytes
-  pub same : (outer : List (Slot Tree)) (at : ℕ) → run trees (record { outer = outer; place = from }) (tokens_from 0 at bytes)
+  pub same : (outer : List (Slot Tree)) (at : ℕ) → length outer + levels ≤ 32 → run trees (record { outer = outer; place = from }) (tokens_from 0 at bytes)
       ≡ run trees (record { outer = outer; place = to }) (tokens_from 0 (at + (length bytes - length rest)) rest)
+
+-- the bytes begin with the value, of at most so many levels, and the rest follows it
+pub record IsValue (levels : ℕ) (bytes : List ℕ) (v : Tree) (rest : List ℕ) : Type 0 where
+  pub shorter : length rest < length bytes
+  pub goes : (slot : Slot Tree) → GoesOn levels (want slot) bytes (delivered v slot) rest
+  pub first : GoesOn levels first_element bytes (after_element (v ∷ [])) rest
+
+-- the same from behind the value's bracket on
+pub record Closes (from : Place Tree) (levels : ℕ) (bytes : List ℕ) (v : Tree) (rest : List ℕ) : Type 0 where
+  pub shorter : length rest < length bytes
+  pub same : (slot : Slot Tree) (outer : List (Slot Tree)) (at : ℕ) → length outer + suc levels ≤ 32 → run trees (record { outer = slot ∷ outer; place = from }) (tokens_from 0 at bytes)
+      ≡ run trees (record { outer = outer; place = delivered v slot }) (tokens_from 0 (at + (length bytes - length rest)) rest)

@@ -1,5 +1,5 @@
 -- A string, a character at a time. Only the crate's private clauses cite it.
-use Rattle.std.specs.Prelude.{◌≡◌, ℕ, ◌<◌, Bool, not, nat_le, List, [], ◌∷◌, ◌&&◌, ◌==◌, if◌then◌else◌, Option, Some, None, option_map, length, encode_utf8}
+use Rattle.std.specs.Prelude.{◌≡◌, ℕ, ◌<◌, Bool, not, nat_le, nat_lt, List, [], ◌∷◌, ◌&&◌, ◌||◌, ◌==◌, if◌then◌else◌, Option, Some, None, option_map, length, encode_utf8}
 use Rattle.json_text.specs.Text.{Within, string_at, plain, after, code_unit}
 use Rattle.json_text.specs.declared.string.Part.{Part}
 use Rattle.json_text.specs.declared.string.Part.TheVariants.{Closing, Char, Malformed}
@@ -20,6 +20,9 @@ abbrev pub escaped_unit_at : List ℕ → Option (ℕ × List ℕ)
 escaped_unit_at (s ∷ u ∷ xs) = if (s == 92) && (u == 117) then unit_at xs else None
 escaped_unit_at bytes = None
 
--- a byte that stands for itself
+-- a byte that doesn't stand for itself, and one that does
+abbrev pub is_mark : ℕ → Bool
+is_mark x = (x == 34) || (x == 92) || nat_lt x 32
+
 abbrev pub is_plain : ℕ → Bool
 is_plain x = not (x == 34) && not (x == 92) && nat_le 32 x

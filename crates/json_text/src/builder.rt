@@ -13,7 +13,7 @@ use json_tree::{Items, Members, ObjectBuilder, Text, TreeFault, Value};
 use std::alloc::{AllocFailed, Global};
 use std::mem;
 
-const MAX_LEVELS: usize = 32;
+pub(crate) const MAX_LEVELS: usize = 32;
 
 // Where a value goes.
 #[derive(Drop)]
@@ -124,7 +124,7 @@ fn date_of(members: &Members) -> Option<i64>
     }
 }
 
-fn object_value(members: Members) -> Value
+pub(crate) fn object_value(members: Members) -> Value
     ensures { tree result ≡ object_value members }
 {
     match date_of(&members) {

@@ -23,6 +23,7 @@ pub(crate) enum Front<'a> {
     Wide(char, &'a str),
 }
 
+#[cold]
 fn decoded_front(text: &str) -> Front<'_>
     ensures { IsFront text.now result }
 {
@@ -38,6 +39,7 @@ fn decoded_front(text: &str) -> Front<'_>
     }
 }
 
+#[inline(always)]
 pub(crate) fn front_of(text: &str) -> Front<'_>
     ensures { IsFront text.now result }
 {
@@ -64,12 +66,20 @@ fn blanks_len(bytes: &[u8]) -> usize
     len
 }
 
-pub(crate) fn after_blanks(text: &str) -> &str
+#[cold]
+fn past_blanks(text: &str) -> &str
     ensures { result.now ≡ drop (prefix_len is_blank text.now) text.now }
 {
     let len = blanks_len(text.as_bytes());
-    if len == 0 {
-        return text;
-    }
     &text[len..]
+}
+
+#[inline(always)]
+pub(crate) fn after_blanks(text: &str) -> &str
+    ensures { result.now ≡ drop (prefix_len is_blank text.now) text.now }
+{
+    match text.as_bytes() {
+        [b, ..] if *b > b' ' => text,
+        _ => past_blanks(text),
+    }
 }

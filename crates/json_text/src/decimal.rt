@@ -100,7 +100,7 @@ pub(crate) fn with_few_digits(n: u64, digits: &[u8]) -> u64
     n
 }
 
-fn ten_to(power: u64) -> u64
+pub(crate) fn ten_to(power: u64) -> u64
     requires { power ≤ 18 }
     ensures value { result ≡ 10 ^ power }
     ensures small { result ≤ 10 ^ 18 }

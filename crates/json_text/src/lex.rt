@@ -7,7 +7,7 @@ ghost use Rattle.json_text.specs.Token.{number};
 ghost use Rattle.json_text.specs.View.{token_of};
 
 use crate::chars::{Front, front_of};
-use crate::numeral::{numeral, numeral_len, short_whole};
+use crate::numeral::{numeral, numeral_len, short_units};
 use crate::string::string_of;
 use json_tree::{Num, Text, TreeFault};
 use std::alloc::Global;
@@ -38,7 +38,8 @@ fn string_token(alloc: Global, text: &str) -> Result<(Token, &str), TreeFault>
     }
 }
 
-fn numeral_token(text: &str) -> (Token, &str)
+#[inline(never)]
+pub(crate) fn numeral_token(text: &str) -> (Token, &str)
     ensures { (token_of result.0, result.1.now) ≡ numeral_at text.now }
 {
     let len = numeral_len(text.as_bytes());
@@ -49,15 +50,13 @@ fn numeral_token(text: &str) -> (Token, &str)
     (token, &text[len..])
 }
 
-// The numeral at the front, where it is digits alone and few.
+// The numeral at the front, where it has few digits and no sign or exponent.
+#[inline(always)]
 pub(crate) fn short_numeral(text: &str) -> Option<(Num, &str)>
     ensures { IfSome result (λ p. (number (Some p.0), p.1.now) ≡ numeral_at text.now) }
 {
-    let (n, len) = short_whole(text.as_bytes())?;
-    Some((
-        Num::of_units(n as i128 * 1_000_000_000_000_000_000),
-        &text[len..],
-    ))
+    let (units, len) = short_units(text.as_bytes())?;
+    Some((Num::of_units(units as i128), &text[len..]))
 }
 
 fn is_letter(b: u8) -> bool
@@ -92,7 +91,7 @@ fn word(bytes: &[u8]) -> Token
     Token::Malformed
 }
 
-fn word_token(text: &str) -> (Token, &str)
+pub(crate) fn word_token(text: &str) -> (Token, &str)
     ensures { (token_of result.0, result.1.now) ≡ word_at text.now }
 {
     let len = word_len(text.as_bytes());

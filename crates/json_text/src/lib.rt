@@ -9,8 +9,8 @@ mod lex;
 mod measure;
 mod numeral;
 mod print;
+mod quick;
 mod read;
-mod scalars;
 mod string;
 
 pub use laws::{numerals_are_written_so, strings_are_written_so};

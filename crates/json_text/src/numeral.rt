@@ -1,5 +1,5 @@
 // Numerals.
-ghost use Rattle.std.specs.Prelude.{◌≡◌, ℕ, ℤ, pos, negsuc, ◌+◌, ◌-◌, ◌*◌, ◌^◌, ◌<◌, ◌≤◌, ◌+ℤ◌, ◌-ℤ◌, ◌≤ℤ◌, length, take, drop, option_map, IfSome, MatchOption, Some, None, IsTrue, List};
+ghost use Rattle.std.specs.Prelude.{◌≡◌, ℕ, ℤ, pos, negsuc, ◌+◌, ◌-◌, ◌*◌, ◌^◌, ◌<◌, ◌≤◌, ◌+ℤ◌, ◌-ℤ◌, ◌≤ℤ◌, length, take, drop, option_map, IfSome, MatchOption, Some, None, IsTrue, List, ◌∷◌};
 ghost use Rattle.std.specs.List.{prefix_len, list_all};
 ghost use Rattle.std.specs.Char.{is_ascii_digit};
 ghost use Rattle.std.specs.Str.Parse.{digits_value, digits_value_after};
@@ -7,9 +7,9 @@ ghost use Rattle.json_text.specs.Numeral.{is_numeral_byte, digits, after_digits,
 ghost use Rattle.json_tree.specs.Num.{units_of};
 ghost use Rattle.json_text.specs.Capped.{IsCut};
 ghost use Rattle.json_text.specs.Parts.{IsCutNumber, WholeRead, IsExponent, AreParts};
-ghost use Rattle.json_text.specs.Short.{IsFront, Stops, IsShort};
+ghost use Rattle.json_text.specs.Short.{IsFront, Stops, IsFraction, IsShort};
 
-use crate::decimal::{ZERO, few_units, units, with_digits, with_few_digits};
+use crate::decimal::{ZERO, few_units, ten_to, units, with_digits, with_few_digits};
 use json_tree::Num;
 
 // Past this an exponent puts any digits out of range.
@@ -45,6 +45,7 @@ fn digits_len(bytes: &[u8]) -> usize
 }
 
 // The number that the digits at the front write, at most 18 of them, and how many they are.
+#[inline(always)]
 fn few_digits(bytes: &[u8]) -> (u64, usize)
     ensures { IsFront bytes.now result.0 result.1 }
 {
@@ -58,6 +59,7 @@ fn few_digits(bytes: &[u8]) -> (u64, usize)
 }
 
 // Whether a numeral that stood before the bytes has ended.
+#[inline(always)]
 fn has_ended(bytes: &[u8]) -> bool
     ensures { IsTrue result → Stops bytes.now }
 {
@@ -67,9 +69,40 @@ fn has_ended(bytes: &[u8]) -> bool
     }
 }
 
-// The numeral at the front and its length, where it is digits alone and at most 18.
-#[tactic(auto, using(crate::proofs::Short::short))]
-pub(crate) fn short_whole(bytes: &[u8]) -> Option<(u64, usize)>
+#[inline(always)]
+fn after_point(bytes: &[u8]) -> Option<&[u8]>
+    ensures { IfSome result (λ rest. bytes.now ≡ 46 ∷ rest.now) }
+{
+    match bytes {
+        [b'.', rest @ ..] => Some(rest),
+        _ => None,
+    }
+}
+
+// What a point and the digits after it add in units, where they are at most 18, and how many bytes these are.
+#[inline(always)]
+#[tactic(auto, using(crate::proofs::Short::no_fraction))]
+fn short_fraction(bytes: &[u8]) -> Option<(u64, usize)>
+    ensures { IfSome result (λ p. IsFraction bytes.now p.0 p.1) }
+{
+    let Some(rest) = after_point(bytes) else {
+        return if has_ended(bytes) { Some((0, 0)) } else { None };
+    };
+    let (n, len) = few_digits(rest);
+    if len == 0 {
+        return None;
+    }
+    let (_, after) = rest.split_at(len);
+    if !has_ended(after) {
+        return None;
+    }
+    Some((n * ten_to(18 - len as u64), len + 1))
+}
+
+// The units of the numeral at the front and its length, where it is digits or digits, a point and digits,
+// at most 18 on either side.
+#[inline(always)]
+pub(crate) fn short_units(bytes: &[u8]) -> Option<(u128, usize)>
     ensures { IfSome result (λ p. IsShort bytes.now p.0 p.1) }
 {
     let (n, len) = few_digits(bytes);
@@ -77,10 +110,11 @@ pub(crate) fn short_whole(bytes: &[u8]) -> Option<(u64, usize)>
     if !is_whole(digits) {
         return None;
     }
-    if !has_ended(rest) {
-        return None;
-    }
-    Some((n, len))
+    let (fraction, more) = short_fraction(rest)?;
+    Some((
+        n as u128 * 1_000_000_000_000_000_000 + fraction as u128,
+        len + more,
+    ))
 }
 
 // The digits at the front, and what follows them.

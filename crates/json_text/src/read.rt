@@ -14,7 +14,7 @@ ghost use Rattle.json_text.specs.Builds.{Builds, IsFor};
 use crate::builder::{Builder, Kind, Refusal, Step};
 use crate::chars::after_blanks;
 use crate::lex::next_token;
-use crate::scalars::go_ahead;
+use crate::quick::whole_value_of;
 use json_tree::{TreeFault, Value};
 use std::alloc::{AllocError, Global};
 use thiserror::Error;
@@ -72,14 +72,14 @@ fn fault_at(refusal: Refusal, at: u64) -> TextFault
     }
 }
 
-fn read_text(alloc: Global, text: &str) -> Result<Value, TextFault>
+// Token by token, up to the first fault.
+fn read_tokens(alloc: Global, text: &str) -> Result<Value, TextFault>
     ensures { Builds result (machine.run machine.trees machine.start (tokens text.now)) }
 {
     let mut builder = Builder::new(alloc);
     let mut rest = text;
     'tokens: loop {
-        let ahead = go_ahead(alloc, &mut builder.place, rest)?;
-        let from = after_blanks(ahead);
+        let from = after_blanks(rest);
         let (token, after) = next_token(alloc, from)?;
         match builder.take(alloc, token) {
             Ok(step) => match step {
@@ -88,6 +88,15 @@ fn read_text(alloc: Global, text: &str) -> Result<Value, TextFault>
             },
             Err(refusal) => return Err(fault_at(refusal, (text.len() - from.len()) as u64)),
         }
+    }
+}
+
+fn read_text(alloc: Global, text: &str) -> Result<Value, TextFault>
+    ensures { Builds result (machine.run machine.trees machine.start (tokens text.now)) }
+{
+    match whole_value_of(alloc, text) {
+        Some(value) => Ok(value),
+        None => read_tokens(alloc, text),
     }
 }
 

@@ -1,13 +1,15 @@
 // Strings.
-ghost use Rattle.std.specs.Prelude.{◌≡◌, ◌<◌, ◌≤◌, ◌+◌, Some, None, IfOk, IfSome, IsTrue, MatchOption, option_map, length, take, drop};
-ghost use Rattle.std.specs.List.{prefix_len, list_all};
+ghost use Rattle.std.specs.Prelude.{◌≡◌, ◌<◌, ◌≤◌, ◌+◌, Some, None, IfOk, IfSome, IsTrue, MatchOption, option_map, length, map, take, drop};
+ghost use Rattle.std.specs.List.{prefix_len};
+ghost use Rattle.std.specs.Simd.Lanes.{mask_l};
 ghost use Rattle.std.specs.Char.{digit_value};
 ghost use Rattle.json_text.specs.Text.{short_escape, code_unit, is_high_half, is_low_half, string_at, plain, after_backslash, after_u, after_high};
-ghost use Rattle.json_text.specs.Part.{IsPart, unit_at, escaped_unit_at, is_plain};
+ghost use Rattle.json_text.specs.Part.{IsPart, unit_at, escaped_unit_at, is_mark, is_plain};
 
 use crate::chars::{Front, front_of};
 use json_tree::{Text, TreeFault};
 use std::alloc::Global;
+use std::simd::prelude::*;
 
 // How many bytes are tested at once.
 const BLOCK: usize = 16;
@@ -179,43 +181,46 @@ fn is_plain(b: u8) -> bool
     b != b'"' && b != b'\\' && b >= 0x20
 }
 
-// Whether all bytes stand for themselves. No byte ends it early, so that a machine tests many at once.
-#[tactic(auto, using(crate::proofs::Runs::all_runs))]
-fn all_plain(bytes: &[u8]) -> bool
-    ensures { result ≡ list_all is_plain bytes.now }
+// Of a block, the bytes that don't stand for themselves, as bits.
+#[inline(always)]
+fn marks(block: u8x16) -> u64
+    requires { length block ≡ 16 }
+    ensures { result ≡ mask_l (map is_mark block) }
 {
-    let mut all = true;
-    'bytes: for b in bytes {
-        all &= is_plain(*b);
-    }
-    all
+    let marked = block.simd_eq(u8x16::splat(b'"')) | block.simd_eq(u8x16::splat(b'\\'));
+    (marked | block.simd_lt(u8x16::splat(0x20))).to_bitmask()
 }
 
-// How many bytes the blocks at the front have in which all bytes stand for themselves.
-fn plain_blocks_len(bytes: &[u8]) -> usize
-    ensures within { result ≤ length bytes.now }
-    ensures plain { result + prefix_len is_plain (drop result bytes.now) ≡ prefix_len is_plain bytes.now }
+// How many bytes stand for themselves from a place on, one at a time.
+fn plain_len_from(bytes: &[u8], from: usize) -> usize
+    requires { from ≤ length bytes.now }
+    ensures { result ≡ from + prefix_len is_plain (drop from bytes.now) }
 {
-    let mut len = 0;
-    'wide: while bytes.len() - len >= BLOCK && all_plain(&bytes[len..len + BLOCK]) {
-        len += BLOCK;
-    }
-    len
-}
-
-// How many bytes at the front stand for themselves.
-#[tactic(auto, using(crate::proofs::Runs::runs))]
-pub(crate) fn plain_len(bytes: &[u8]) -> usize
-    ensures { result ≡ prefix_len is_plain bytes.now }
-{
-    let mut len = plain_blocks_len(bytes);
+    let mut len = from;
     'run: while len < bytes.len() && is_plain(bytes[len]) {
         len += 1;
     }
     len
 }
 
+// How many bytes at the front stand for themselves.
+#[inline(always)]
+pub(crate) fn plain_len(bytes: &[u8]) -> usize
+    ensures { result ≡ prefix_len is_plain bytes.now }
+{
+    let mut len = 0;
+    'wide: while bytes.len() - len >= BLOCK {
+        let marked = marks(u8x16::from_slice(&bytes[len..]));
+        if marked != 0 {
+            return len + marked.trailing_zeros() as usize;
+        }
+        len += BLOCK;
+    }
+    plain_len_from(bytes, len)
+}
+
 // The bytes at the front that stand for themselves, and what follows them.
+#[inline(always)]
 fn split_plain(text: &str) -> (&str, &str)
     ensures front { result.0.now ≡ take (prefix_len is_plain text.now) text.now }
     ensures rest { result.1.now ≡ drop (prefix_len is_plain text.now) text.now }
@@ -225,6 +230,7 @@ fn split_plain(text: &str) -> (&str, &str)
 }
 
 // The string whose opening quote stands before the text, and what follows it.
+#[cold]
 fn escaped_string(alloc: Global, text: &str) -> Result<Option<(Text, &str)>, TreeFault>
     ensures { IfOk result (λ r. MatchOption r (string_at plain text.now ≡ None) (λ p. string_at plain text.now ≡ Some (p.0, p.1.now))) }
 {
@@ -245,6 +251,7 @@ fn escaped_string(alloc: Global, text: &str) -> Result<Option<(Text, &str)>, Tre
 }
 
 // The same; one without escapes is taken as it stands.
+#[inline(always)]
 #[tactic(auto, using(crate::proofs::Strings::plain_string))]
 pub(crate) fn string_of(alloc: Global, text: &str) -> Result<Option<(Text, &str)>, TreeFault>
     ensures { IfOk result (λ r. MatchOption r (string_at plain text.now ≡ None) (λ p. string_at plain text.now ≡ Some (p.0, p.1.now))) }

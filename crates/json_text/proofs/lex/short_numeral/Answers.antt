@@ -6,4 +6,4 @@ use Rattle.json_text.proofs.lex.short_numeral.Goals as goal
 
 pub range_from-requires : goal.range_from-requires
 range_from-requires c =
-    λ some. run_boundary is_numeral_byte c.args.text.now c.in_ok-n.len numeral_is_ascii (c.in_ok-n.ensures.all ∙ ap (prefix_len is_numeral_byte) c.as_bytes.ensures.value) c.utf8.text some
+    λ some. run_boundary is_numeral_byte c.args.text.now c.in_ok-units.len numeral_is_ascii (c.in_ok-units.ensures.all ∙ ap (prefix_len is_numeral_byte) c.as_bytes.ensures.value) c.utf8.text some
