@@ -1,6 +1,7 @@
 pub mod Adding
 pub mod Pairs
 pub mod Walked
+pub mod Columned
 pub mod Apart
 pub mod Sorted
 pub mod Falling
