@@ -9,5 +9,6 @@ pub mod Ascending
 pub mod Keys
 pub mod Stored
 pub mod Ids
+pub mod Headed
 pub mod Seeking
 pub mod Runs

@@ -198,7 +198,9 @@ pub(crate) fn count(places: &[Place]) -> usize {
     let mut count: usize = 0;
     for place in places {
         let own = if kind(place.value()) == 0 { 2 } else { 3 };
-        count = count.saturating_add(place.inside().len()).saturating_add(own);
+        count = count
+            .saturating_add(place.inside().len())
+            .saturating_add(own);
     }
     count
 }
