@@ -1,6 +1,7 @@
 pub mod Adding
 pub mod Pairs
 pub mod Walked
+pub mod Columned
 pub mod Apart
 pub mod Sorted
 pub mod Falling
@@ -8,5 +9,6 @@ pub mod Ascending
 pub mod Keys
 pub mod Stored
 pub mod Ids
+pub mod Headed
 pub mod Seeking
 pub mod Runs

@@ -6,5 +6,6 @@ pub mod Probe
 pub mod SortKey
 pub mod Bytes
 pub mod Row
+pub mod Beginning
 pub mod Rows
 pub mod Search

@@ -4,12 +4,14 @@ ghost use Rattle.json_tree.specs.Doc.{IsDocument, id_in};
 ghost use Rattle.json_tree.specs.Id.{IsId};
 ghost use Rattle.json_tree.specs.Writable.{IsWritable};
 ghost use Rattle.shred_cols.specs.Columns.{IsColumns};
+ghost use Rattle.shred_cols.specs.Beginning.{beginning};
 ghost use Rattle.shred_cols.specs.Row.{Version, id_of};
 ghost use Rattle.shred_cols.specs.declared.fault.ShredFault.TheVariants.{NoMemory};
 
 use crate::columns::Columns;
 use crate::document::shred;
 use crate::fault::ShredFault;
+use crate::head::beginning;
 use json_tree::{Doc, DocId};
 use std::alloc::Global;
 use std::marker::Model;
@@ -21,6 +23,7 @@ pub struct Row {
     tx: u64,
     doc: Doc,
     columns: Columns,
+    begins: [u8; 16],
 }
 
 impl Model for Row {
@@ -33,9 +36,12 @@ impl Model for Row {
     ghost view = { λ r. record { tx = r.tx; doc = r.doc } };
 
     ghost use Rattle.json_tree.specs.Doc.{IsDocument};
+    ghost use Rattle.std.specs.Prelude.{◌≡◌};
     ghost use Rattle.shred_cols.specs.Columns.{IsColumns};
+    ghost use Rattle.shred_cols.specs.Row.{id_of};
+    ghost use Rattle.shred_cols.specs.Beginning.{beginning};
 
-    ghost invariant = { λ r. IsDocument r.doc × IsColumns r.doc r.columns };
+    ghost invariant = { λ r. IsDocument r.doc × IsColumns r.doc r.columns × (r.begins ≡ beginning (id_of r.doc)) };
 }
 
 impl Row {
@@ -45,7 +51,20 @@ impl Row {
         ensures err { IfErr result (λ e. e ≡ NoMemory) }
     {
         let columns = shred(alloc, &doc)?;
-        Ok(Row { tx, doc, columns })
+        let begins = beginning_of(&doc);
+        Ok(Row {
+            tx,
+            doc,
+            columns,
+            begins,
+        })
+    }
+
+    /// The beginning of the document's id.
+    pub fn begins(&self) -> &[u8]
+        ensures { result.now ≡ beginning (id_of self.now.doc) }
+    {
+        &self.begins
     }
 
     /// The document's id.
@@ -90,6 +109,7 @@ impl Row {
             tx: _tx,
             doc,
             columns: _columns,
+            begins: _begins,
         } = self;
         doc
     }
@@ -105,6 +125,14 @@ impl Row {
             tx: self.tx,
             doc,
             columns,
+            begins: self.begins,
         })
     }
+}
+
+#[tactic(auto, using(crate::proofs::Ids::document_id))]
+fn beginning_of(doc: &Doc) -> [u8; 16]
+    ensures { result ≡ beginning (id_of doc.now) }
+{
+    beginning(doc.id())
 }
