@@ -3,10 +3,9 @@ use Rattle.std.proofs.Common.{◌≡◌, ◌≢◌, ◌<◌, ◌+◌, ◌-◌, �
 use Rattle.std.proofs.lemmas.Bool.Decides.{nat_tests}
 use Rattle.std.proofs.lemmas.List.{take-append-drop, drop_more, get_or-drop}
 use Rattle.std.proofs.Math.Seq.{take-add}
-use Rattle.dapi.specs.Lines.{IsLineLen}
 use Rattle.std.proofs.lemmas.List.Folds.{list_all-append}
 use Rattle.memchr.specs.Find.{Nowhere, Passes, is_byte}
-use Rattle.dapi.specs.Separated.{is_free_of}
+use Rattle.dapi.specs.Separated.{is_free_of, IsFirst}
 
 pub both_true : (a b : Bool) → (a && b) ≡ true → (a ≡ true) × (b ≡ true)
 both_true true b e = (refl, e)
@@ -89,20 +88,20 @@ cut_at (x ∷ xs) (suc at) n b h e m =
     suc_place : (at : ℕ) → suc (at + 1) ≡ suc at + 1
     suc_place at = omega arith
 
--- the first line ends at the first LF behind bytes that are known to hold none
-pub line_ends : (bytes hay : List ℕ) (s p : ℕ) → hay ≡ drop s bytes → s ≤ length bytes → IsTrue (is_free_of 10 (take s bytes)) → p < length hay
-    → Nowhere (Passes (is_byte 10) hay) 0 p → (get_or hay p 0 == 10) ≡ true → IsLineLen bytes (s + p)
-line_ends bytes hay s p is within free here nowhere found =
+-- a byte stands first behind bytes that are known to be others
+pub first_ends : (b : ℕ) (bytes hay : List ℕ) (s p : ℕ) → hay ≡ drop s bytes → s ≤ length bytes → IsTrue (is_free_of b (take s bytes)) → p < length hay
+    → Nowhere (Passes (is_byte b) hay) 0 p → (get_or hay p 0 == b) ≡ true → IsFirst b bytes (s + p)
+first_ends b bytes hay s p is within free here nowhere found =
     let below : s + p < length bytes = omega (arith, ap length is, length-drop s bytes) in
     record {
       within = below;
-      free = ap (is_free_of 10) (take-add s p bytes) ∙ free_joined 10 (take s bytes) (take p (drop s bytes)) free (ap (λ xs. is_free_of 10 (take p xs)) (sym is) ∙ free_before 10 hay p nowhere);
-      text = cut_here bytes (s + p) 10 below (ap (λ x. x == 10) (sym (ap (λ xs. get_or xs p 0) is ∙ get_or-drop s bytes p 0)) ∙ found);
+      free = ap (is_free_of b) (take-add s p bytes) ∙ free_joined b (take s bytes) (take p (drop s bytes)) free (ap (λ xs. is_free_of b (take p xs)) (sym is) ∙ free_before b hay p nowhere);
+      text = cut_here bytes (s + p) b below (ap (λ x. x == b) (sym (ap (λ xs. get_or xs p 0) is ∙ get_or-drop s bytes p 0)) ∙ found);
     }
 
-pub no_line_ends : (bytes hay : List ℕ) (s : ℕ) → hay ≡ drop s bytes → IsTrue (is_free_of 10 (take s bytes)) → Nowhere (Passes (is_byte 10) hay) 0 (length hay) → IsTrue (is_free_of 10 bytes)
-no_line_ends bytes hay s is free nowhere =
-    ap (is_free_of 10) (sym (take-append-drop s bytes)) ∙ free_joined 10 (take s bytes) (drop s bytes) free (ap (is_free_of 10) (sym is) ∙ free_all 10 hay nowhere)
+pub none_ends : (b : ℕ) (bytes hay : List ℕ) (s : ℕ) → hay ≡ drop s bytes → IsTrue (is_free_of b (take s bytes)) → Nowhere (Passes (is_byte b) hay) 0 (length hay) → IsTrue (is_free_of b bytes)
+none_ends b bytes hay s is free nowhere =
+    ap (is_free_of b) (sym (take-append-drop s bytes)) ∙ free_joined b (take s bytes) (drop s bytes) free (ap (is_free_of b) (sym is) ∙ free_all b hay nowhere)
 
 pub whole_rest : (s : ℕ) (bytes : List ℕ) → take (length bytes - s) (drop s bytes) ≡ drop s bytes
 whole_rest s bytes = take_rest (length bytes - s) (drop s bytes) (omega (arith, length-drop s bytes))

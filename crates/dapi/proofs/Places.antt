@@ -1,10 +1,10 @@
 -- Paths and requests, read in one way.
-use Rattle.std.proofs.Common.{◌≡◌, ◌<◌, ◌≤◌, ◌+◌, nat_lt, length, length-append, append_assoc, inl, inr, ◌++◌, ◌∷◌, [], ℕ, List, true, false, not, ◌==◌, IsTrue, Option, Some, None, refl, sym, ◌∙◌, ap, arith, codes}
+use Rattle.std.proofs.Common.{◌≡◌, ◌<◌, ◌≤◌, ◌+◌, ◌-◌, nat_lt, length, take, drop, length-drop, length-append, append_assoc, inl, inr, ◌++◌, ◌∷◌, [], ℕ, List, true, false, not, ◌==◌, IsTrue, Option, Some, None, refl, sym, ◌∙◌, ap, arith, codes}
 use Rattle.std.proofs.lemmas.Bool.Decides.{nat_tests}
 use Rattle.std.proofs.lemmas.List.{append-nil}
 use Rattle.std.proofs.lemmas.List.Folds.{list_all-append}
 use Rattle.std.specs.List.{list_all}
-use Rattle.dapi.specs.Separated.{is_free_of}
+use Rattle.dapi.specs.Separated.{is_free_of, IsFirst}
 use Rattle.dapi.specs.Request.{Request, Asks, IsHopeless, is_skipped, is_part_byte, is_part, is_collection_part, collection_path}
 use Rattle.dapi.specs.Asked.{IsPlace}
 use Rattle.dapi.proofs.Cuts.{both_true, joined_true, cut_once, not_free, free_joined}
@@ -123,3 +123,13 @@ long_seen part path body path₂ body₂ text free text₂ free₂ long =
     let parts = cut_once 32 path path₂ body body₂ free free₂ (sym text ∙ text₂) in
     let long' : 20000000 < length body = omega (arith, long, ap length parts.1) in
     grind (arith, nat_tests)
+
+-- a line whose first space stands so far before its end
+pub place_hopeless : (part : List ℕ) (place : ℕ) → IsFirst 32 part place → 20000000 < length part - place - 1 → IsHopeless part
+place_hopeless part place first long = long_hopeless part (take place part) (drop (place + 1) part) first.text first.free (omega (arith, length-drop (place + 1) part, long))
+
+pub place_seen : (part : List ℕ) (place : ℕ) → IsFirst 32 part place → (path body : List ℕ) → part ≡ path ++ 32 ∷ body → IsTrue (is_free_of 32 path) → 20000000 < length body → nat_lt 20000000 (length part - place - 1) ≡ true
+place_seen part place first path body text free long =
+    let seen : nat_lt 20000000 (length (drop (place + 1) part)) ≡ true = long_seen part (take place part) (drop (place + 1) part) path body first.text first.free text free long in
+    let len : length (drop (place + 1) part) ≡ length part - place - 1 = omega (arith, length-drop (place + 1) part) in
+    ap (λ n. nat_lt 20000000 n) (sym len) ∙ seen

@@ -1,7 +1,7 @@
 -- An input as lines. A line ends by LF, or by the end of the input.
-use Rattle.std.specs.Prelude.{◌≡◌, ℕ, ◌+◌, ◌<◌, List, [], ◌∷◌, ◌++◌, length, take, drop, IsTrue}
+use Rattle.std.specs.Prelude.{◌≡◌, ℕ, List, [], ◌∷◌, ◌++◌, IsTrue}
 use Rattle.std.specs.List.{flat_map, list_all}
-use Rattle.dapi.specs.Separated.{is_free_of}
+use Rattle.dapi.specs.Separated.{is_free_of, IsFirst}
 
 -- these lines, an LF behind each
 abbrev pub ended_lines : List (List ℕ) → List ℕ
@@ -32,7 +32,5 @@ pub record BeginsWith (bytes : List ℕ) (lines : List (List ℕ)) : Type 0 wher
   pub each : IsTrue (list_all (is_free_of 10) lines)
 
 -- the first line has this length, and an LF stands behind it
-pub record IsLineLen (bytes : List ℕ) (len : ℕ) : Type 0 where
-  pub within : len < length bytes
-  pub free : IsTrue (is_free_of 10 (take len bytes))
-  pub text : bytes ≡ take len bytes ++ 10 ∷ drop (len + 1) bytes
+abbrev pub IsLineLen : List ℕ → ℕ → Type 0
+IsLineLen bytes len = IsFirst 10 bytes len

@@ -1,18 +1,20 @@
 //! Lines of an input that comes in pieces.
 ghost use Rattle.std.specs.Prelude.{◌≡◌, ◌++◌, ◌+◌, ◌<◌, ◌≤◌, [], None, length, take, drop, IsTrue, IfSome, OnOk, OnErr};
-ghost use Rattle.dapi.specs.Separated.{is_free_of};
+ghost use Rattle.dapi.specs.Separated.{is_free_of, IsFirst};
 ghost use Rattle.dapi.specs.Lines.{IsLineLen};
 
 use memchr::memchr;
 use std::alloc::{AllocError, Global};
 use std::marker::Model;
 
-/// The bytes of an input that wait for the end of their line. Each byte is looked at once, however long the line is.
+/// The bytes of an input that wait for the end of their line. Each byte is looked at once for an LF, and once for a
+/// space, however long the line is.
 #[derive(Drop)]
 pub struct Lines {
     bytes: Vec<u8>,
     at: usize,
     searched: usize,
+    spaceless: usize,
 }
 
 impl Model for Lines {
@@ -23,17 +25,17 @@ impl Model for Lines {
 
     ghost view = { λ l. drop l.at l.bytes.items };
 
-    ghost invariant = { λ l. (l.at + l.searched ≤ length l.bytes.items) × IsTrue (is_free_of 10 (take l.searched (drop l.at l.bytes.items))) };
+    ghost invariant = { λ l. (l.at + l.searched ≤ length l.bytes.items) × IsTrue (is_free_of 10 (take l.searched (drop l.at l.bytes.items))) × (l.at + l.spaceless ≤ length l.bytes.items) × IsTrue (is_free_of 32 (take l.spaceless (drop l.at l.bytes.items))) };
 }
 
-// Where the first line ends, of bytes of which so many are known to hold no LF.
-fn line_end(bytes: &[u8], searched: usize) -> Option<usize>
+// Where a byte stands first, of bytes of which so many are known to be others.
+fn first_of(byte: u8, bytes: &[u8], searched: usize) -> Option<usize>
     requires within { searched ≤ length bytes.now }
-    requires free { IsTrue (is_free_of 10 (take searched bytes.now)) }
-    ensures some { IfSome result (IsLineLen bytes.now) }
-    ensures none { result ≡ None → IsTrue (is_free_of 10 bytes.now) }
+    requires free { IsTrue (is_free_of byte (take searched bytes.now)) }
+    ensures some { IfSome result (IsFirst byte bytes.now) }
+    ensures none { result ≡ None → IsTrue (is_free_of byte bytes.now) }
 {
-    match memchr(b'\n', &bytes[searched..]) {
+    match memchr(byte, &bytes[searched..]) {
         Some(place) => Some(searched + place),
         None => None,
     }
@@ -61,6 +63,7 @@ impl Lines {
             bytes: Vec::new(alloc),
             at: 0,
             searched: 0,
+            spaceless: 0,
         }
     }
 
@@ -80,12 +83,26 @@ impl Lines {
         ensures none { result ≡ None → IsTrue (is_free_of 10 self.old) }
         ensures same { self.new ≡ self.old }
     {
-        let len = line_end(&self.bytes.as_slice()[self.at..], self.searched);
+        let len = first_of(b'\n', &self.bytes.as_slice()[self.at..], self.searched);
         self.searched = match len {
             Some(len) => len,
             None => self.bytes.len() - self.at,
         };
         len
+    }
+
+    /// Where the first space stands.
+    pub fn space(&mut self) -> Option<usize>
+        ensures some { IfSome result (IsFirst 32 self.old) }
+        ensures none { result ≡ None → IsTrue (is_free_of 32 self.old) }
+        ensures same { self.new ≡ self.old }
+    {
+        let place = first_of(b' ', &self.bytes.as_slice()[self.at..], self.spaceless);
+        self.spaceless = match place {
+            Some(place) => place,
+            None => self.bytes.len() - self.at,
+        };
+        place
     }
 
     /// So many bytes from the front.
@@ -104,6 +121,7 @@ impl Lines {
         let end = self.at + len;
         self.at = end + 1;
         self.searched = 0;
+        self.spaceless = 0;
     }
 
     /// The bytes that wait.

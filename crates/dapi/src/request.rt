@@ -2,12 +2,13 @@
 ghost use Rattle.std.specs.Prelude.{◌≡◌, ◌++◌, ◌∷◌, ◌≤◌, ◌<◌, ℕ, List, Option, codes, length, IsTrue, MatchOption, IfSome, None, option_map};
 ghost use Rattle.std.specs.List.{list_all};
 ghost use Rattle.dapi.specs.Request.{Request, Asks, IsHopeless, is_part_byte, is_part, is_skipped, is_collection_part, collection_path};
-ghost use Rattle.dapi.specs.Separated.{is_free_of};
+ghost use Rattle.dapi.specs.Separated.{is_free_of, IsFirst};
 ghost use Rattle.dapi.specs.Asked.{request_of, IsPlace};
 
 use crate::bytes::cut;
 
-const MAX_BODY: usize = 20_000_000;
+/// The most bytes of a body.
+pub const MAX_BODY: usize = 20_000_000;
 
 /// A request, within the line that asks for it.
 #[derive(Clone, Copy)]
@@ -112,9 +113,11 @@ pub fn request_of(line: &[u8]) -> Option<Asked<'_>>
     })
 }
 
-/// Whether a line that begins with these bytes can't be right, as far as that is looked for: its body is too long
-/// already, or it begins like no path and is as long.
-pub fn is_hopeless(part: &[u8]) -> bool
+/// Whether a line that begins with these bytes, whose first space stands at this place, can't be right, as far as that
+/// is looked for: its body is too long already, or it begins like no path and is as long.
+pub fn is_hopeless(part: &[u8], space: Option<usize>) -> bool
+    requires some { IfSome space (IsFirst 32 part.now) }
+    requires none { space ≡ None → IsTrue (is_free_of 32 part.now) }
     ensures hopeless { IsTrue result → IsHopeless part.now }
     ensures long { (path body : List ℕ) → part.now ≡ path ++ 32 ∷ body → IsTrue (is_free_of 32 path) → 20000000 < length body → IsTrue result }
 {
@@ -124,8 +127,8 @@ pub fn is_hopeless(part: &[u8]) -> bool
     let Some(_) = after_version(part) else {
         return true;
     };
-    match cut(part, b' ') {
-        Some((_, body)) => body.len() > MAX_BODY,
+    match space {
+        Some(place) => part.len() - place - 1 > MAX_BODY,
         None => false,
     }
 }

@@ -1,12 +1,13 @@
 //! Lines that are served as their bytes come.
-ghost use Rattle.std.specs.Prelude.{◌≡◌, ◌++◌, ◌+◌, ◌^◌, ◌<◌, ℕ, List, [], length, Err, IfErr, OnOk, OnErr};
-ghost use Rattle.dapi.specs.Request.{IsRightLine};
+ghost use Rattle.std.specs.Prelude.{◌≡◌, ◌++◌, ◌∷◌, ◌+◌, ◌^◌, ◌<◌, ℕ, List, [], length, Err, IfErr, IsTrue, OnOk, OnErr};
+ghost use Rattle.dapi.specs.Request.{IsRightLine, IsHopeless};
+ghost use Rattle.dapi.specs.Separated.{is_free_of};
 ghost use Rattle.dapi.specs.Run.{ServesLine};
 ghost use Rattle.dapi.specs.Piece.{fed, TakesLines, StopsAt, TakesLast, StopsLast};
 
 use crate::answer::answer;
 use crate::lines::Lines;
-use crate::request::{is_hopeless, is_skipped, request_of};
+use crate::request::{MAX_BODY, is_hopeless, is_skipped, request_of};
 use std::alloc::Global;
 use store_core::Store;
 
@@ -95,6 +96,19 @@ fn serve_line(
     }
 }
 
+// Whether the line that waits can't be right. A line that may be short yet isn't looked through.
+fn is_hopeless_part(lines: &mut Lines) -> bool
+    ensures hopeless { IsTrue result → IsHopeless lines.old }
+    ensures long { (path body : List ℕ) → lines.old ≡ path ++ 32 ∷ body → IsTrue (is_free_of 32 path) → 20000000 < length body → IsTrue result }
+    ensures same { lines.new ≡ lines.old }
+{
+    if lines.part().len() <= MAX_BODY {
+        return false;
+    }
+    let space = lines.space();
+    is_hopeless(lines.part(), space)
+}
+
 // Serves the lines that ended.
 fn serve_lines(
     alloc: Global,
@@ -114,7 +128,7 @@ fn serve_lines(
             Err(LineStop::NoMemory) => return Err(Stop::NoMemory),
         }
     }
-    if is_hopeless(run.lines.part()) {
+    if is_hopeless_part(&mut run.lines) {
         return Err(Stop::Wrong {
             line: run.count + 1,
         });

@@ -17,6 +17,7 @@ use Rattle.doc_paths.specs.At.{at}
 use Rattle.doc_paths.specs.Text.{parts, IsPath, path_fault}
 use Rattle.filter_tree.specs.Paths.{is_path}
 use Rattle.json_tree.specs.Same.{same}
+use Rattle.json_tree.specs.RoundTrips.{list_of_elements-elements_of, elements_of-list_of_elements}
 use Rattle.shred_cols.specs.Entry.{kept_of, key_of, Says, IsSize}
 use Rattle.shred_cols.specs.Probe.{inside, meets, same_kept, number_within, text_within, ends}
 use Rattle.shred_cols.specs.Columns.{IsColumns, Belongs}
@@ -160,14 +161,6 @@ is_some-None (Some x) h = Prim.cc h
 pub a_path : (q : List ℕ) → is_path q ≡ true → IsPath q
 a_path q h = is_some-None (path_fault q) h
 
-trees_within : (ts : List Tree) → list_of_elements (elements_of ts) ≡ ts
-trees_within [] = refl
-trees_within (t ∷ ts) = ap (λ x. t ∷ x) (trees_within ts)
-
-elements_within : (ts : Elements) → elements_of (list_of_elements ts) ≡ ts
-elements_within no_elements = refl
-elements_within (element t ts) = ap (λ x. element t x) (elements_within ts)
-
 -- the test of sameness tells equal values
 abbrev pub Alike : Type 0
 Alike = (a b : Tree) → IsTrue (same a b) ↔ (a ≡ b)
@@ -177,7 +170,7 @@ at_equals alike v x (inl h) = ap (λ o. equals o x) h ∙ left_true (same x x) (
 at_equals alike v x (inr (ts, i, h, at)) =
     ap (λ o. equals o x) h
     ∙ right_true (same (list (elements_of ts)) x) (list_any (λ y. same y x) (elements_in (list (elements_of ts))))
-    (ap (list_any (λ y. same y x)) (trees_within ts) ∙ passes (λ y. same y x) ts i x at ((alike x x).1 refl))
+    (ap (list_any (λ y. same y x)) (list_of_elements-elements_of ts) ∙ passes (λ y. same y x) ts i x at ((alike x x).1 refl))
 
 pub equals_at : Alike → (v : Option Tree) (x : Tree) → equals v x ≡ true → IsAt v x
 equals_at alike None x h = Prim.cc h
@@ -186,13 +179,13 @@ equals_at alike (Some u) x h = elim (either_true (same u x) (list_any (λ y. sam
     within : (u x : Tree) → list_any (λ y. same y x) (elements_in u) ≡ true → (ts : List Tree) × (i : ℕ) × (Some u ≡ Some (list (elements_of ts))) × (slice_get ts i ≡ Some x)
     within (list es) x q =
         let f = found (λ y. same y x) (list_of_elements es) q in
-        (list_of_elements es, f.1, ap (λ z. Some (list z)) (sym (elements_within es)), f.2 ∙ ap Some ((alike f.0 x).0 f.3))
+        (list_of_elements es, f.1, ap (λ z. Some (list z)) (sym (elements_of-list_of_elements es)), f.2 ∙ ap Some ((alike f.0 x).0 f.3))
     within u x q = Prim.cc q
 
 -- ---- probes of the columns of a document
 
 from_elements : (v y : Tree) → Contains (elements_in v) y → IsAt (Some v) y
-from_elements (list es) y c = inr (list_of_elements es, c.0, ap (λ z. Some (list z)) (sym (elements_within es)), slice_get-get_or (list_of_elements es) c.0 y c.1 ∙ ap Some c.2)
+from_elements (list es) y c = inr (list_of_elements es, c.0, ap (λ z. Some (list z)) (sym (elements_of-list_of_elements es)), slice_get-get_or (list_of_elements es) c.0 y c.1 ∙ ap Some c.2)
 from_elements null y c = absurd (omega (arith, c.1))
 from_elements (boolean b) y c = absurd (omega (arith, c.1))
 from_elements (number n) y c = absurd (omega (arith, c.1))
@@ -205,7 +198,7 @@ said_at q l v (inl k) = (v, inl refl, k)
 said_at q l v (inr (y, c, k)) = (y, from_elements v y c, k)
 
 to_elements : (ts : List Tree) (i : ℕ) (x : Tree) → slice_get ts i ≡ Some x → Contains (elements_in (list (elements_of ts))) x
-to_elements ts i x at = subst (λ l. Contains l x) (sym (trees_within ts)) (i, slice_get_within ts i x at, get_or_from_slice_get ts i x x at)
+to_elements ts i x at = subst (λ l. Contains l x) (sym (list_of_elements-elements_of ts)) (i, slice_get_within ts i x at, get_or_from_slice_get ts i x x at)
 
 pub has_at : (d : Tree) (c : List Entry) (q : List ℕ) (k : Kept) → IsColumns d c → meets (p.Has q k) c ≡ true
     → (y : Tree) × IsAt (at d (parts q)) y × (same_kept k (kept_of y) ≡ true)

@@ -4,5 +4,6 @@ pub mod Writables
 pub mod Tells
 pub mod Texts
 pub mod Judgement
+pub mod Near
 pub mod Making
 pub mod Opens

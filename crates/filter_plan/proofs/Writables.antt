@@ -4,6 +4,7 @@ use Rattle.std.specs.Option.{option_and_then}
 use Rattle.std.specs.Str.{bytes_eq}
 use Rattle.json_tree.specs.Tree.{Tree, null, boolean, number, text, date, list, object, elements_of, list_of_elements, list_of_members, Elements, element, no_elements, Members, member, no_members}
 use Rattle.json_tree.specs.Members.{member_at}
+use Rattle.json_tree.specs.RoundTrips.{list_of_elements-elements_of}
 use Rattle.json_tree.specs.Writable.{IsWritable, AreWritable, MembersAreWritable}
 use Rattle.doc_paths.specs.At.{at}
 use Rattle.doc_paths.specs.At as paths
@@ -47,10 +48,6 @@ at_writable (part ∷ more) t v w e = further (paths.inside t part) (λ c h. ins
     further None f g e = Prim.cc e
     further (Some c) f g e = g c (f c refl) e
 
-within : (ts : List Tree) → list_of_elements (elements_of ts) ≡ ts
-within [] = refl
-within (t ∷ ts) = ap (λ x. t ∷ x) (within ts)
-
 pub writable_at : (d : Tree) (ps : List (List ℕ)) (y : Tree) → IsWritable d → IsAt (at d ps) y → IsWritable y
 writable_at d ps y w (inl h) = at_writable ps d y w h
-writable_at d ps y w (inr (ts, i, h, it)) = element_writable (elements_of ts) i y (at_writable ps d (list (elements_of ts)) w h) (ap (λ l. slice_get l i) (within ts) ∙ it)
+writable_at d ps y w (inr (ts, i, h, it)) = element_writable (elements_of ts) i y (at_writable ps d (list (elements_of ts)) w h) (ap (λ l. slice_get l i) (list_of_elements-elements_of ts) ∙ it)

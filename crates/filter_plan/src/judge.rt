@@ -6,7 +6,11 @@ ghost use Rattle.filter_plan.specs.Judging.{Judged};
 ghost use Rattle.json_tree.specs.Writable.{IsWritable};
 ghost use Rattle.filter_tree.specs.Ready.{is_ready, FilterIsWritable};
 ghost use Rattle.filter_tree.specs.Matches.{matches};
-ghost use Rattle.shred_cols.specs.Probe.{meets};
+ghost use Rattle.shred_cols.specs.Probe.{inside, is_kept_at, meets};
+ghost use Rattle.shred_cols.specs.declared.forms.Kept.{Kept};
+ghost use Rattle.shred_cols.specs.declared.probe.Probe.TheVariants as p;
+ghost use Rattle.std.specs.List.{list_any, list_all};
+ghost use Rattle.filter_plan.specs.Keeps.{keeps};
 ghost use Rattle.shred_cols.specs.declared.entry.Entry.{Entry};
 ghost use Rattle.filter_tree.specs.Filters.{FilterTree};
 ghost use Rattle.json_tree.specs.Tree.{Tree};
@@ -14,9 +18,16 @@ ghost use Rattle.shred_cols.specs.Columns.{IsColumns};
 ghost use Rattle.std.specs.Prelude.{map};
 
 use crate::step::{Plan, Step, Verdict};
+use doc_paths::Path;
 use json_text::texts_tell_values;
 use json_tree::same_decides;
-use shred_cols::{Columns, Probe};
+use shred_cols::{Columns, Entry, Kept, Probe};
+
+// So many steps on one path let its run of entries be found once for all of them,
+const MANY: usize = 4;
+
+// and a run of no more entries than this be looked through for each.
+const SHORT: usize = 8;
 
 fn of_probe(met: bool, exact: bool) -> Verdict
     ensures { result ≡ of_probe met exact }
@@ -62,6 +73,67 @@ fn either(a: Verdict, b: Verdict) -> Verdict
     }
 }
 
+// ---- steps that ask which values are kept at one path
+
+// An entry of a run keeps the value.
+fn keeps(kept: &Kept, entry: &Entry) -> bool
+    ensures { result ≡ keeps kept.now entry.now }
+{
+    match entry {
+        Entry::Has(_, other) => kept.same(other),
+        _ => false,
+    }
+}
+
+fn is_kept(kept: &Kept, run: &[Entry]) -> bool
+    ensures { result ≡ list_any (keeps kept.now) run.now }
+{
+    for entry in run {
+        if keeps(kept, entry) {
+            return true;
+        }
+    }
+    false
+}
+
+// What the columns answer, where the run of a path is at hand.
+fn meets(probe: &Probe, columns: &Columns, path: &str, run: &[Entry]) -> bool
+    requires asked { (k : Kept) → list_any (inside (p.Has path.now k)) run.now ≡ meets (p.Has path.now k) columns.now }
+    requires only { list_all (is_kept_at path.now) run.now ≡ true }
+    ensures { result ≡ meets probe.now columns.now }
+{
+    match probe {
+        Probe::Has(own, kept) => {
+            if own.text() == path {
+                return is_kept(kept, run);
+            }
+            columns.meets(probe)
+        }
+        _ => columns.meets(probe),
+    }
+}
+
+fn kept_path(step: &Step) -> Option<&Path> {
+    match step {
+        Step::Met(Probe::Has(path, _), _) => Some(path),
+        _ => None,
+    }
+}
+
+// The path that the first and the last of many steps ask.
+fn shared_path(steps: &[Step]) -> Option<&Path> {
+    if steps.len() < MANY {
+        return None;
+    }
+    let first = kept_path(&steps[0])?;
+    let last = kept_path(&steps[steps.len() - 1])?;
+    if first.text() == last.text() {
+        Some(first)
+    } else {
+        None
+    }
+}
+
 #[cycle(judging)]
 fn judge(step: &Step, columns: &Columns) -> Verdict
     ensures { result ≡ verdict columns.now (step_tree step.now) }
@@ -75,7 +147,29 @@ fn judge(step: &Step, columns: &Columns) -> Verdict
 }
 
 #[cycle(judging)]
+fn judge_near(step: &Step, columns: &Columns, path: &str, run: &[Entry]) -> Verdict
+    requires asked { (k : Kept) → list_any (inside (p.Has path.now k)) run.now ≡ meets (p.Has path.now k) columns.now }
+    requires only { list_all (is_kept_at path.now) run.now ≡ true }
+    ensures { result ≡ verdict columns.now (step_tree step.now) }
+{
+    match step {
+        Step::Met(probe, exact) => of_probe(meets(probe, columns, path, run), *exact),
+        _ => judge(step, columns),
+    }
+}
+
+#[cycle(judging)]
 fn judge_all(steps: &[Step], columns: &Columns) -> Verdict
+    ensures { result ≡ all_verdict columns.now (steps_of (map step_tree steps.now)) }
+{
+    match shared_path(steps) {
+        Some(path) => all_at(steps, columns, path),
+        None => all_apart(steps, columns),
+    }
+}
+
+#[cycle(judging)]
+fn all_apart(steps: &[Step], columns: &Columns) -> Verdict
     ensures { result ≡ all_verdict columns.now (steps_of (map step_tree steps.now)) }
 {
     let mut all = Verdict::Yes;
@@ -89,12 +183,76 @@ fn judge_all(steps: &[Step], columns: &Columns) -> Verdict
 }
 
 #[cycle(judging)]
+fn all_at(steps: &[Step], columns: &Columns, path: &Path) -> Verdict
+    ensures { result ≡ all_verdict columns.now (steps_of (map step_tree steps.now)) }
+{
+    let run = columns.kept_at(path);
+    if run.len() > SHORT {
+        return all_apart(steps, columns);
+    }
+    all_near(steps, columns, path.text(), run)
+}
+
+#[cycle(judging)]
+fn all_near(steps: &[Step], columns: &Columns, path: &str, run: &[Entry]) -> Verdict
+    requires asked { (k : Kept) → list_any (inside (p.Has path.now k)) run.now ≡ meets (p.Has path.now k) columns.now }
+    requires only { list_all (is_kept_at path.now) run.now ≡ true }
+    ensures { result ≡ all_verdict columns.now (steps_of (map step_tree steps.now)) }
+{
+    let mut all = Verdict::Yes;
+    for step in steps {
+        all = both(all, judge_near(step, columns, path, run));
+        if let Verdict::No = all {
+            return Verdict::No;
+        }
+    }
+    all
+}
+
+#[cycle(judging)]
 fn judge_any(steps: &[Step], columns: &Columns) -> Verdict
+    ensures { result ≡ any_verdict columns.now (steps_of (map step_tree steps.now)) }
+{
+    match shared_path(steps) {
+        Some(path) => any_at(steps, columns, path),
+        None => any_apart(steps, columns),
+    }
+}
+
+#[cycle(judging)]
+fn any_apart(steps: &[Step], columns: &Columns) -> Verdict
     ensures { result ≡ any_verdict columns.now (steps_of (map step_tree steps.now)) }
 {
     let mut any = Verdict::No;
     for step in steps {
         any = either(any, judge(step, columns));
+        if let Verdict::Yes = any {
+            return Verdict::Yes;
+        }
+    }
+    any
+}
+
+#[cycle(judging)]
+fn any_at(steps: &[Step], columns: &Columns, path: &Path) -> Verdict
+    ensures { result ≡ any_verdict columns.now (steps_of (map step_tree steps.now)) }
+{
+    let run = columns.kept_at(path);
+    if run.len() > SHORT {
+        return any_apart(steps, columns);
+    }
+    any_near(steps, columns, path.text(), run)
+}
+
+#[cycle(judging)]
+fn any_near(steps: &[Step], columns: &Columns, path: &str, run: &[Entry]) -> Verdict
+    requires asked { (k : Kept) → list_any (inside (p.Has path.now k)) run.now ≡ meets (p.Has path.now k) columns.now }
+    requires only { list_all (is_kept_at path.now) run.now ≡ true }
+    ensures { result ≡ any_verdict columns.now (steps_of (map step_tree steps.now)) }
+{
+    let mut any = Verdict::No;
+    for step in steps {
+        any = either(any, judge_near(step, columns, path, run));
         if let Verdict::Yes = any {
             return Verdict::Yes;
         }

@@ -8,7 +8,7 @@ use std::alloc::Global;
 use std::test::Fail;
 
 // Documents, each with filters and what they say of it.
-const ROWS: [(&str, &str); 5] = [
+const ROWS: [(&str, &str); 6] = [
     (
         r#"{"_id":"t","tags":["x",null,{"k":1}]}"#,
         r#"{"tags":"x"} => yes
@@ -18,7 +18,27 @@ const ROWS: [(&str, &str); 5] = [
 {"tags":{"$ne":"x"}} => no
 {"tags":{"k":1}} => yes
 {"tags":["x",null,{"k":1}]} => yes
-{"tags":["x",null]} => no"#,
+{"tags":["x",null]} => no
+{"tags":{"$in":[1,2,3,"x"]}} => yes
+{"tags":{"$in":[1,2,3,"y"]}} => no
+{"tags":{"$nin":[{"k":1},2,3,4]}} => no
+{"tags":{"$nin":[{"k":2},2,3,4]}} => yes
+{"tags":{"$all":["x",null,{"k":1},"x"]}} => yes
+{"tags":{"$all":["x",null,{"k":2},"x"]}} => no
+{"$or":[{"tags":1},{"tags.2.k":1},{"no":1},{"tags":2}]} => yes
+{"$or":[{"tags":1},{"tags.2.k":2},{"no":1},{"tags":2}]} => no
+{"$and":[{"tags":"x"},{"tags.2.k":1},{"_id":"t"},{"tags":null}]} => yes
+{"$and":[{"tags":"x"},{"tags.2.k":1},{"_id":"x"},{"tags":null}]} => no
+{"_id":{"$in":["q","r","s","t"]}} => yes
+{"_id":{"$in":["q","r","s","tt"]}} => no"#,
+    ),
+    (
+        r#"{"_id":"l","l":[1,2,3,4,5,6,7,8,9,10]}"#,
+        r#"{"l":{"$in":[11,12,13,7]}} => yes
+{"l":{"$in":[11,12,13,14]}} => no
+{"l":{"$nin":[11,12,13,14]}} => yes
+{"l":{"$all":[1,2,3,10]}} => yes
+{"l":{"$all":[1,2,3,11]}} => no"#,
     ),
     (
         r#"{"_id":"1","a":{"0":5}}"#,

@@ -160,7 +160,27 @@ const OF_ORDER: &str = r#"{} => yes
 {"paid":true,"paid":false} => yes
 {"paid":false,"paid":true} => no
 {"n":{"$gt":-2,"$gt":0}} => no
-{"n":{"$gt":0,"$gt":-2}} => yes"#;
+{"n":{"$gt":0,"$gt":-2}} => yes
+{"_id.x":{"$exists":false}} => yes
+{"_id":{"$all":["order-1001"]}} => yes
+{"n":{"$all":[-1.5,2]}} => no
+{"items":{"$ne":{"sku":"B-7","qty":1,"price":5}}} => no
+{"items":{"$nin":[{"sku":"B-7"},{"qty":1}]}} => yes
+{"items.-1.qty":{"$exists":false}} => yes
+{"customer":{"$size":2}} => no
+{"empty":{"$size":0}} => no
+{"grid.1":{"$size":1e0}} => yes
+{"tags":{"$size":-0}} => yes
+{"paid":{"$gt":-1}} => no
+{"paid":{"$lte":"true"}} => no
+{"note":{"$gte":0}} => no
+{"customer":{"$gt":""}} => no
+{"word":{"$gte":"Zoë","$lte":"Zoë"}} => yes
+{"word":{"$lt":"z","$gt":"Zoe","$ne":"Zoë"}} => no
+{"placed":{"$gt":"1"}} => no
+{"n":{"$lt":-1.499999999999999999}} => yes
+{"n":{"$eq":{"$date":-2}}} => no
+{"$and":[{"n":{"$exists":true}},{"$not":{"$or":[{"n":0},{"paid":true}]}}]} => yes"#;
 
 // Filters, each with what it says of a smaller document.
 const OF_OTHERS: [(&str, &str); 4] = [
@@ -258,7 +278,17 @@ true => invalid ''
 {"x":{"$date":1.5}} => unknown '$date'
 {"x":{"$date":5,"y":1}} => unknown '$date'
 {"$and":[],"$nor":[]} => unknown '$nor'
-{"x":{"$gt":1},"x":{"$near":1}} => unknown '$near'"#;
+{"x":{"$gt":1},"x":{"$near":1}} => unknown '$near'
+{"$date":5,"x":1} => unknown '$date'
+{"$and":null} => invalid '$and'
+{"$or":[[]]} => invalid '$or'
+{"$not":null} => invalid '$not'
+{"$or":[{},{"$and":3}]} => invalid '$and'
+{"$not":{"x":{"$gt":1,"$foo":2,"y":3}}} => unknown '$foo'
+{"x":{"$all":[1],"":1}} => invalid 'x'
+{"x":{"$size":1000000.5}} => invalid 'x'
+{"x":{"$exists":"true"}} => invalid 'x'
+{"x":{"y":1,"$near":2},"$or":[]," ":1} => invalid ' '"#;
 
 // What a filter says of a document.
 fn says(alloc: Global, document: &str, filter: &str) -> Result<&'static str, Fail> {
