@@ -9,8 +9,6 @@ mod id;
 mod key;
 mod laws;
 mod num;
-mod open_items;
-mod open_members;
 #[cfg(test)]
 mod tests;
 mod text;
@@ -25,7 +23,5 @@ pub use laws::{
     ids_are_ordered, key_bytes_are_ordered, products_are_exact, same_decides, values_are_writable,
 };
 pub use num::Num;
-pub use open_items::OpenItems;
-pub use open_members::OpenMembers;
 pub use text::Text;
 pub use value::{Items, Members, Value};

@@ -1,7 +1,4 @@
-use crate::{
-    Doc, DocId, Items, Members, Num, ObjectBuilder, OpenItems, OpenMembers, Text, TreeFault, Value,
-    scale,
-};
+use crate::{Doc, DocId, Items, Members, Num, ObjectBuilder, Text, TreeFault, Value, scale};
 use std::alloc::Global;
 use std::cmp::Ordering;
 use std::test::Fail;
@@ -219,70 +216,6 @@ fn put_rounds(alloc: Global, rounds: u32, names: u32) -> Result<(Members, Member
         }
     }
     Ok((builder.finish(), members))
-}
-
-/// Puts the same names into an open object, above a pair of the object around it.
-fn push_rounds(alloc: Global, rounds: u32, names: u32) -> Result<OpenMembers, Fail> {
-    let mut open = OpenMembers::new(alloc);
-    open.push(Text::of_str(alloc, "name 0")?, Value::Null)?;
-    for round in 0..rounds {
-        for name in 0..names {
-            let value = Num::of_parts(i128::from(round), 0)?;
-            let text = format!(in alloc; "name {name}")?;
-            open.push(Text::of_string(text)?, Value::Num(value))?;
-        }
-    }
-    Ok(open)
-}
-
-/// Closes an object of one more than the outer one's pairs, and then the outer one.
-fn closed(open: OpenMembers, outer: usize) -> Result<(Members, Members), TreeFault> {
-    let mut open = open;
-    let from = if open.len() > outer {
-        outer
-    } else {
-        open.len()
-    };
-    let inner = open.close(from)?;
-    let around = open.close(0)?;
-    Ok((inner, around))
-}
-
-#[test]
-fn open_members_are_members(rt: HostRuntime) -> Result<(), Fail> {
-    for (rounds, names) in [(1, 0), (1, 13), (2, 13), (1, 40), (3, 40)] {
-        let (_, put) = put_rounds(rt.alloc(), rounds, names)?;
-        let (inner, around) = closed(push_rounds(rt.alloc(), rounds, names)?, 1)?;
-        assert!(rt; inner.same(&put));
-        assert_eq!(rt; around.len(), 1);
-        assert!(rt; around.get("name 0").ok_or("no name")?.same(&Value::Null));
-    }
-    Ok(())
-}
-
-/// Null alone, in a list after an outer one that has the date 1.
-fn open_lists(alloc: Global) -> Result<(Items, Items), TreeFault> {
-    let mut open = OpenItems::new(alloc);
-    open.push(Value::Date(1))?;
-    let from = open.len();
-    open.push(Value::Null)?;
-    let inner = if from <= open.len() {
-        open.close(from)?
-    } else {
-        Items::new(alloc)
-    };
-    let around = open.close(0)?;
-    Ok((inner, around))
-}
-
-#[test]
-fn open_items_are_lists(rt: HostRuntime) -> Result<(), Fail> {
-    let (inner, around) = open_lists(rt.alloc())?;
-    assert_eq!(rt; inner.len(), 1);
-    assert_eq!(rt; around.len(), 1);
-    assert!(rt; inner.get(0).ok_or("none")?.same(&Value::Null));
-    assert!(rt; around.get(0).ok_or("none")?.same(&Value::Date(1)));
-    Ok(())
 }
 
 #[test]
