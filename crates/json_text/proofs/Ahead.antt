@@ -1,15 +1,15 @@
 -- Runs over several tokens, and over whole values.
-use Rattle.std.proofs.Common.{◌≡◌, ℕ, zero, suc, ◌+◌, ◌-◌, ◌≤◌, ◌<◌, List, [], ◌∷◌, ◌++◌, length, Bool, true, false, cond, Option, Some, None, refl, sym, ap, ◌∙◌, arith, subst}
+use Rattle.std.proofs.Common.{◌≡◌, ℕ, suc, ◌+◌, ◌-◌, ◌≤◌, ◌<◌, List, [], ◌∷◌, ◌++◌, length, Bool, true, false, cond, Option, Some, None, refl, sym, ap, ◌∙◌, arith, subst}
 use Rattle.std.specs.Prelude.{IfSome}
 use Rattle.std.specs.Str.{bytes_eq}
 use Rattle.std.proofs.lemmas.Bool.{lt-ltb}
 use Rattle.json_tree.specs.Tree.{Tree, list}
 use Rattle.json_tree.specs.Tree as tree
 use Rattle.json_tree.specs.Members.{put_member}
-use Rattle.json_text.specs.Token.{Token, Placed, string, number, boolean, null, begin_object, end_object, begin_array, end_array, name_separator, value_separator, end, malformed}
+use Rattle.json_text.specs.Token.{Token, string, number, boolean, null, begin_object, end_object, begin_array, end_array, name_separator, value_separator, end, malformed}
 use Rattle.json_text.specs.Grammar.{object_value}
 use Rattle.json_text.specs.Lex.{token_at, tokens_from, tokens}
-use Rattle.json_text.specs.Machine.{Place, Slot, whole, element_of, member_of, want, first_element, after_element, first_name, name_of, colon_of, after_member, complete, State, more, done, fault, Step, step, End, built, run, trees, start, deliver, opened}
+use Rattle.json_text.specs.Machine.{Place, Slot, whole, element_of, member_of, want, first_element, after_element, first_name, name_of, colon_of, after_member, complete, State, more, fault, step, built, run, trees, start, deliver, opened}
 use Rattle.json_text.specs.Ahead.{unblanked, scalar_value, IsFirst, IsScalar, IsScalarToken, next_element_place, next_member_place, delivered, GoesOn, IsValue, Closes}
 use Rattle.json_text.specs.Faults.{too_deep}
 use Rattle.json_text.proofs.Turns.{took_more, took_done}

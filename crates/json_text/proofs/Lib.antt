@@ -6,7 +6,6 @@ pub mod FirstFault
 pub mod Bounds
 pub mod Law
 pub mod Runs
-pub mod Decimals
 pub mod Roundings
 pub mod Numerals
 pub mod Wide

@@ -1,6 +1,6 @@
 -- A numeral spells something exactly where it is [ minus ] int [ frac ] [ exp ].
-use Rattle.std.proofs.Common.{◌≡◌, ◌⊎◌, inl, inr, ⊎_elim, ℕ, ℤ, pos, neg_ℤ, zero, suc, List, [], ◌∷◌, ◌++◌, length, take, drop, Bool, true, false, cond, eqb, not, ◌||◌, ◌&&◌, Option, Some, None, is_some, option_map, option_and_then, refl, sym, ap, ap₂, ◌∙◌, subst, arith}
-use Rattle.std.proofs.lemmas.List.{append-nil, take-append-drop}
+use Rattle.std.proofs.Common.{◌≡◌, ◌⊎◌, inl, inr, ⊎_elim, ℕ, ℤ, pos, neg_ℤ, List, [], ◌∷◌, ◌++◌, length, Bool, true, false, cond, eqb, not, ◌||◌, Option, Some, None, is_some, option_map, option_and_then, refl, sym, ap, ap₂, ◌∙◌, subst, arith}
+use Rattle.std.proofs.lemmas.List.{take-append-drop}
 use Rattle.std.proofs.lemmas.Bool.{and_parts, true≢false, ne_eqb, eq-eqb, cases_eq}
 use Rattle.std.proofs.lemmas.Bool.Decides.{nat_tests}
 use Rattle.std.specs.List.{prefix_len, list_all}
@@ -9,7 +9,6 @@ use Rattle.std.specs.Str.Parse.{digits_value}
 use Rattle.json_tree.specs.Num.{Decimal, units_of}
 use Rattle.json_text.specs.Numeral.{digits, after_digits, is_whole, if_some, fraction_at, whole_digits, signed_digits, exponent_of, decimal_of, unsigned, numeral, AreDigits, IsMinus, IsInt, IsFrac, IsExp, IsNumeral}
 use Rattle.json_text.proofs.Runs.{run_passes}
-use Rattle.json_text.proofs.Lexing.{either}
 use Rattle.json_text.proofs.Numerals.{some_parts}
 use Rattle.json_text.proofs.PrintedNumbers.{StopsAt, run_front, run_rest, no_minus}
 

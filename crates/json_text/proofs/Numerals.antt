@@ -11,7 +11,7 @@ use Rattle.std.specs.List.{list_all}
 use Rattle.json_text.specs.declared.decimal.Rounded.{Rounded}
 use Rattle.std.proofs.Math.Nat.{pow-succ', pow-le-pow_right}
 use Rattle.std.proofs.lemmas.Bool.{and_parts}
-use Rattle.json_text.proofs.Decimals.{fitted}
+use Rattle.json_tree.specs.Decimals.{fitted}
 use Rattle.json_text.proofs.Roundings.{digit_is, next_digit, rounded_lost, rounded_zero, rounded_far}
 
 module _ (s w r : List ℕ) (whole : w ≡ digits s) (rest : r ≡ after_digits s) where

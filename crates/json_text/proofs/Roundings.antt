@@ -10,7 +10,7 @@ use Rattle.std.proofs.lemmas.Int.{ints}
 use Rattle.json_tree.specs.Num.{in_range}
 use Rattle.json_text.specs.Capped.{IsRounded, IsLost}
 use Rattle.json_text.specs.declared.decimal.Rounded.{Rounded}
-use Rattle.json_text.proofs.Decimals.{ten_step, fitted, scaled-times, fitted-far, fitted-zero, fitted-lost}
+use Rattle.json_tree.specs.Decimals.{ten_step, fitted, scaled-times, fitted-far, fitted-zero, fitted-lost}
 
 lost_rest : (b : Bool) (r : ℕ) → IsLost b r → b ≡ true → 0 < r
 lost_rest true r l e = l

@@ -1,20 +1,19 @@
 -- Numerals of few digits.
-use Rattle.std.proofs.Common.{◌≡◌, ℕ, zero, suc, ◌+◌, ◌-◌, ◌*◌, ◌^◌, ◌<◌, ◌≤◌, pos, neg_ℤ, List, [], ◌∷◌, ◌++◌, length, take, drop, get_or, Bool, true, false, cond, eqb, not, ◌||◌, ◌&&◌, Option, Some, None, option_map, option_and_then, refl, sym, ap, ap₂, ◌∙◌, append_assoc, subst, arith}
+use Rattle.std.proofs.Common.{◌≡◌, ℕ, zero, suc, ◌+◌, ◌-◌, ◌*◌, ◌^◌, ◌<◌, ◌≤◌, pos, neg_ℤ, List, [], ◌∷◌, ◌++◌, length, take, drop, get_or, true, cond, ◌&&◌, Some, option_map, option_and_then, refl, sym, ap, ap₂, ◌∙◌, append_assoc, subst, arith}
 use Rattle.std.proofs.lemmas.List.{length-append, take_more, take-append-drop}
 use Rattle.std.proofs.lemmas.List.Folds.{list_all-append}
 use Rattle.std.proofs.lemmas.Bool.{and_parts}
-use Rattle.std.proofs.lemmas.Bool.Decides.{nat_tests}
 use Rattle.std.proofs.Math.Nat.{pow-succ', pow-le-pow_right, mul-lt-mul_of_pos_right, add-mul}
 use Rattle.std.proofs.Math.Pow.{pow-add}
 use Rattle.std.proofs.Math.Seq.{take-append_seam}
 use Rattle.std.specs.List.{prefix_len, list_all}
 use Rattle.std.specs.Char.{is_ascii_digit, digit_value}
 use Rattle.std.specs.Str.Parse.{digits_value, digits_value_after}
-use Rattle.json_tree.specs.Num.{Decimal, in_range, scaled, units_of}
+use Rattle.json_tree.specs.Num.{in_range, scaled, units_of}
 use Rattle.json_text.specs.Numeral.{is_numeral_byte, is_whole, decimal_of, unsigned, numeral}
 use Rattle.json_text.specs.Short.{IsFront, Stops, IsFraction, IsShort}
 use Rattle.json_text.specs.Print.{with_point}
-use Rattle.json_text.proofs.Decimals.{in_range-small, ten_pos, ten_step, ten_split}
+use Rattle.json_tree.specs.Decimals.{in_range-small, ten_pos, ten_step, ten_split}
 use Rattle.json_text.proofs.Numerals.{digits_append, some_parts}
 use Rattle.json_text.proofs.Roundings.{digit_is}
 use Rattle.json_text.proofs.PrintedNumbers.{StopsAt, run_stops, run_front, run_rest, all_both, all_more, all_point, digit_in_numeral, point_stops, fraction_point, fraction_power, no_minus}

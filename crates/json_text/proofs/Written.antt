@@ -10,9 +10,9 @@ use Rattle.json_tree.specs.Members.{put_member}
 use Rattle.json_tree.specs.Tree as tree
 use Rattle.json_text.specs.Grammar.{Json, null, boolean, number, string, array, object, Fields, no_fields, field, levels, fields_levels, has_numbers, elements_have_numbers, fields_have_numbers, date_or_object, object_value, tree_of, with_fields}
 use Rattle.json_text.specs.Grammar as json
-use Rattle.json_tree.specs.Dates.{whole_i64, date_name, date_of}
+use Rattle.json_tree.specs.Dates.{whole_i64, date_name}
 use Rattle.json_tree.specs.Writable.{tree_levels, elements_levels, members_levels, IsI64, IsWritable, AreWritable, MembersAreWritable}
-use Rattle.json_text.proofs.Decimals.{ten_pos}
+use Rattle.json_tree.specs.Decimals.{ten_pos}
 
 -- the units of a date's milliseconds
 abbrev pub millis : ℤ → ℤ

@@ -3,7 +3,7 @@ use Rattle.std.specs.Str.Parse.{digits_value, digits_value_after}
 use Rattle.std.proofs.lemmas.Int.{ints}
 use Rattle.json_text.specs.Capped.{IsRounded}
 use Rattle.json_tree.specs.Num.{units_of}
-use Rattle.json_text.proofs.Decimals.{fitted}
+use Rattle.json_tree.specs.Decimals.{fitted}
 use Rattle.json_text.proofs.Numerals.{cut_alike, zero_rounded, digits_append, few_rounded, few_whole, few_digits}
 use Rattle.json_text.proofs.numeral.magnitude.Goals as goal
 

@@ -1,4 +1,4 @@
-use Rattle.std.proofs.Common.{◌≡◌, ◌+◌, ◌-◌, ◌*◌, ◌^◌, ◌<◌, true, drop, refl, sym, ap, subst, arith, rules}
+use Rattle.std.proofs.Common.{◌≡◌, ◌+◌, ◌*◌, ◌^◌, ◌<◌, true, sym, subst, arith, rules}
 use Rattle.json_text.specs.Short.{IsFraction}
 use Rattle.json_text.proofs.Short.{some_fraction, fits_units}
 use Rattle.json_text.proofs.numeral.short_fraction.Goals as goal

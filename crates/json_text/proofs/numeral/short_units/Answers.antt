@@ -1,5 +1,4 @@
-use Rattle.std.proofs.Common.{◌≡◌, ◌<◌, ◌^◌, true, arith, sym, ◌∙◌, rules}
-use Rattle.std.proofs.Math.Nat.{pow-le-pow_right}
+use Rattle.std.proofs.Common.{◌≡◌, true, sym, ◌∙◌, rules}
 use Rattle.json_text.proofs.Short.{is_short}
 use Rattle.json_text.proofs.numeral.short_units.Goals as goal
 

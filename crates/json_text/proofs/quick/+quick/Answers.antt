@@ -1,7 +1,7 @@
-use Rattle.std.proofs.Common.{◌≡◌, ◌∷◌, ◌++◌, ap, sym, ◌∙◌, arith, rules, subst}
+use Rattle.std.proofs.Common.{sym, arith, rules, subst}
 use Rattle.json_tree.specs.View.{tree}
-use Rattle.json_text.specs.Machine.{first_element, first_name, after_element, after_member}
-use Rattle.json_text.specs.Ahead.{GoesOn, IsValue, next_member_place}
+use Rattle.json_text.specs.Machine.{first_element, after_element}
+use Rattle.json_text.specs.Ahead.{GoesOn}
 use Rattle.json_text.proofs.Ahead.{comma_shorter, element_more, element_next, member_is, member_next, put_some, from_front, list_opens, list_closes, list_empty, object_opens, object_closes, object_empty, opening_brace, opening_bracket, then_some}
 use Rattle.json_text.proofs.quick.+quick.Goals as goal
 

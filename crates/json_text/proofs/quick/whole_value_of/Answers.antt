@@ -1,4 +1,4 @@
-use Rattle.std.proofs.Common.{◌∙◌, sym, ap}
+use Rattle.std.proofs.Common.{◌∙◌, sym}
 use Rattle.json_text.proofs.Ahead.{whole_value}
 use Rattle.json_text.proofs.quick.whole_value_of.Goals as goal
 

@@ -1,10 +1,10 @@
-use Rattle.std.proofs.Common.{◌≡◌, ◌+◌, ◌-◌, ◌<◌, ◌≤◌, length, Ok, sym, ap, ◌∙◌, arith, rules, subst}
+use Rattle.std.proofs.Common.{◌≡◌, ◌+◌, ◌-◌, ◌<◌, length, Ok, sym, ap, ◌∙◌, arith, rules, subst}
 use Rattle.std.specs.List.{prefix_len}
 use Rattle.std.proofs.lemmas.List.{length-drop}
 use Rattle.std.proofs.lemmas.List.Sums.{prefix_len-le-length}
 use Rattle.json_tree.specs.View.{tree}
-use Rattle.json_text.specs.Lex.{is_blank, tokens, tokens_from, token_at}
-use Rattle.json_text.specs.Machine.{run, step, trees, start, refused}
+use Rattle.json_text.specs.Lex.{is_blank, tokens_from, token_at}
+use Rattle.json_text.specs.Machine.{run, step, trees, refused}
 use Rattle.json_text.specs.View.{token_of}
 use Rattle.json_text.specs.Build.{state_of, Makes}
 use Rattle.json_text.proofs.Readings.{refused_at}

@@ -1,5 +1,4 @@
-use Rattle.std.proofs.Common.{◌≡◌, ◌+◌, ◌<◌, ◌≤◌, length, arith, sym, ap, ◌∙◌}
-use lib.Count.{count_trailing_zeros}
+use Rattle.std.proofs.Common.{◌+◌, ◌≤◌, length, arith}
 use Rattle.json_text.proofs.Blocks.{block_passes, block_stops}
 use Rattle.json_text.proofs.string.plain_len.Goals as goal
 
