@@ -7,8 +7,7 @@ ghost use Rattle.dapi.specs.Asked.{request_of, IsPlace};
 
 use crate::bytes::cut;
 
-/// The most bytes of a body.
-pub const MAX_BODY: usize = 20_000_000;
+const MAX_BODY: usize = 20_000_000;
 
 /// A request, within the line that asks for it.
 #[derive(Clone, Copy)]

@@ -7,7 +7,7 @@ ghost use Rattle.dapi.specs.Piece.{fed, TakesLines, StopsAt, TakesLast, StopsLas
 
 use crate::answer::answer;
 use crate::lines::Lines;
-use crate::request::{MAX_BODY, is_hopeless, is_skipped, request_of};
+use crate::request::{is_hopeless, is_skipped, request_of};
 use crate::rows::Store;
 use std::alloc::Global;
 
@@ -96,15 +96,12 @@ fn serve_line(
     }
 }
 
-// Whether the line that waits can't be right. A line that may be short yet isn't looked through.
+// Whether the line that waits can't be right.
 fn is_hopeless_part(lines: &mut Lines) -> bool
     ensures hopeless { IsTrue result → IsHopeless lines.old }
     ensures long { (path body : List ℕ) → lines.old ≡ path ++ 32 ∷ body → IsTrue (is_free_of 32 path) → 20000000 < length body → IsTrue result }
     ensures same { lines.new ≡ lines.old }
 {
-    if lines.part().len() <= MAX_BODY {
-        return false;
-    }
     let space = lines.space();
     is_hopeless(lines.part(), space)
 }
