@@ -2,6 +2,7 @@
 ghost use Rattle.std.specs.Prelude.{◌≡◌, ◌≢◌, ◌+◌, ◌-◌, ◌<◌, ◌≤◌, ◌++◌, [], ◌∷◌, true, false, length, map, take, drop, Option, Some, None, IfOk, IfSome, OnOk, vec_len, vec_capacity, slice_get, slice_set, slice_index_or};
 ghost use Rattle.std.specs.Option.{option_map, option_copied};
 ghost use Rattle.json_tree.specs.Id.{id_cmp, IsId};
+ghost use Rattle.shred_cols.specs.Beginning.{beginning};
 ghost use Rattle.shred_cols.specs.Row.{Version, id_of};
 ghost use Rattle.shred_cols.specs.Rows.{Rows, keyed, ascends, version_of, with_version, without};
 ghost use Rattle.column_table.specs.After.{rows_after};
@@ -9,7 +10,7 @@ ghost use Rattle.column_table.specs.Spot.{IsSpot};
 
 use crate::fault::TableFault;
 use json_tree::{DocId, ids_are_ordered};
-use shred_cols::{Row, Steps};
+use shred_cols::{Row, Steps, beginning, beginnings_tell_order};
 use std::alloc::Global;
 use std::cmp::Ordering;
 use std::marker::Model;
@@ -46,13 +47,24 @@ impl Model for Chunk {
     ghost invariant = { λ c. (vec_len c.rows ≤ 64) × (64 ≤ vec_capacity c.rows) };
 }
 
-/// One comparison of ids.
-pub(crate) fn compare<L: Ledger>(a: &DocId, b: &DocId, steps: &mut Steps<L>) -> Ordering
-    ensures order { result ≡ id_cmp a.now b.now }
+/// One comparison of an id with a row's: by their beginnings, and where these are the same by all.
+pub(crate) fn compare<L: Ledger>(
+    id: &DocId,
+    begins: &[u8],
+    row: &Row,
+    steps: &mut Steps<L>,
+) -> Ordering
+    requires { begins.now ≡ beginning id.now }
+    ensures order { result ≡ id_cmp id.now (id_of row.now.doc) }
     ensures one { steps.new ≡ steps.old + 1 }
 {
     steps.tick();
-    a.cmp(b)
+    beginnings_tell_order();
+    match begins.cmp(row.begins()) {
+        Ordering::Less => Ordering::Less,
+        Ordering::Equal => id.cmp(row.id()),
+        Ordering::Greater => Ordering::Greater,
+    }
 }
 
 /// Searches by halves.
@@ -61,11 +73,12 @@ fn seek<L: Ledger>(rows: &[Row], id: &DocId, steps: &mut Steps<L>) -> Spot
     ensures spot { IsSpot id.now (map keyed rows.now) result }
     ensures cost { steps.new ≤ steps.old + length rows.now }
 {
+    let begins = beginning(id);
     let mut low = 0;
     let mut high = rows.len();
     'halves: while low < high {
         let middle = low + (high - low) / 2;
-        match compare(id, rows[middle].id(), steps) {
+        match compare(id, &begins, &rows[middle], steps) {
             Ordering::Less => high = middle,
             Ordering::Equal => return Spot::Here(middle),
             Ordering::Greater => low = middle + 1,

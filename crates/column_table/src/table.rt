@@ -13,7 +13,7 @@ use crate::chunk::{Chunk, WIDTH, compare};
 use crate::fault::TableFault;
 use crate::rows_after::RowsAfter;
 use json_tree::DocId;
-use shred_cols::{Row, Steps};
+use shred_cols::{Row, Steps, beginning};
 use std::alloc::Global;
 use std::cmp::Ordering;
 use std::marker::{Brand, Model};
@@ -51,11 +51,12 @@ fn chunk_of<L: Ledger>(chunks: &[Chunk], id: &DocId, steps: &mut Steps<L>) -> us
     ensures chunk { IsChunkOf id.now chunks.now result }
     ensures cost { steps.new + 1 ≤ steps.old + length chunks.now }
 {
+    let begins = beginning(id);
     let mut low = 1;
     let mut high = chunks.len();
     'halves: while low < high {
         let middle = low + (high - low) / 2;
-        match compare(id, chunks[middle].first().id(), steps) {
+        match compare(id, &begins, chunks[middle].first(), steps) {
             Ordering::Less => high = middle,
             _ => low = middle + 1,
         }
@@ -85,7 +86,7 @@ fn split<L: Ledger>(
     let mut upper = upper;
     let lower = &mut chunks[at];
     lower.split(&mut upper);
-    let order = compare(id, upper.first().id(), steps);
+    let order = compare(id, &beginning(id), upper.first(), steps);
     match chunks.insert(at + 1, upper) {
         Ok(()) => {}
         Err(_) => unreachable!(),
@@ -106,7 +107,7 @@ fn is_past<L: Ledger>(chunks: &[Chunk], at: usize, id: &DocId, steps: &mut Steps
     if at + 1 < chunks.len() {
         return false;
     }
-    match compare(id, chunks[at].last().id(), steps) {
+    match compare(id, &beginning(id), chunks[at].last(), steps) {
         Ordering::Greater => true,
         _ => false,
     }
