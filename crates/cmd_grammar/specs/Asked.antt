@@ -31,8 +31,8 @@ abbrev pub asked : Place → Tree → Option CommandTree
 asked place value = option_map command_in (command_at place.collection value)
 
 -- the place is a collection of the keyspace
-pub record IsPlaced (keyspace : List ℕ) (place : Place) : Type 0 where
-  pub keyspace : place.keyspace ≡ keyspace
+pub record IsPlaced (own : List ℕ) (place : Place) : Type 0 where
+  pub keyspace : place.keyspace ≡ own
   pub name : List ℕ
   pub collection : place.collection ≡ Some name
   pub is_name : IsTrue (is_collection_name name)

@@ -4,6 +4,7 @@ pub mod Commands
 pub mod Documents
 pub mod Fields
 pub mod First
+pub mod Judged
 pub mod Names
 pub mod Refused
 pub mod Requests

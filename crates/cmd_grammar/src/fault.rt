@@ -1,6 +1,7 @@
 // Why a request is refused.
 ghost use Rattle.std.specs.Prelude.{◌≡◌, Some, MatchResult};
 ghost use Rattle.cmd_grammar.specs.Answers.{Refuses};
+ghost use Rattle.cmd_grammar.specs.declared.fault.CommandFault.{CommandFault};
 
 use json_tree::Text;
 use name_tables::Code;
@@ -20,7 +21,7 @@ pub enum CommandFault {
 
 // The refusal by an error that was made, if memory was there for it.
 pub(crate) fn refuse(made: Result<ErrorItem, ReplyFault>) -> CommandFault
-    ensures { MatchResult made (λ error. Refuses (Some error) result) (λ _. result ≡ NoMemory) }
+    ensures { MatchResult made (λ error. Refuses (Some error) result) (λ _. result ≡ CommandFault.NoMemory) }
 {
     match made {
         Ok(ErrorItem { code, message }) => CommandFault::Refused { code, message },
