@@ -1,3 +1,5 @@
-pub mod Members
+pub mod Inside
+pub mod Judging
 pub mod Order
 pub mod Table
+pub mod Wanted

@@ -1,23 +1,25 @@
 // The filter of a command.
-ghost use Rattle.std.specs.Prelude.{◌≡◌, ⊤, codes, Some};
+ghost use Rattle.std.specs.Prelude.{◌≡◌, Some, IfOk};
 ghost use Rattle.json_tree.specs.View.{tree};
-ghost use Rattle.json_tree.specs.Tree.{object, members_of};
 ghost use Rattle.json_tree.specs.Writable.{IsWritable};
 ghost use Rattle.filter_tree.specs.View.{filter_tree};
-ghost use Rattle.filter_tree.specs.declared.filter.Filter.{Filter};
+ghost use Rattle.filter_tree.specs.declared.fault.FilterFault.{FilterFault};
+ghost use Rattle.cmd_grammar.specs.declared.fault.CommandFault.{CommandFault};
 ghost use Rattle.cmd_grammar.specs.Refused.{filter_error, filter_refusal};
 ghost use Rattle.cmd_grammar.specs.Asked.{filter_of};
 ghost use Rattle.cmd_grammar.specs.Commands.{IsAskableFilter};
 ghost use Rattle.cmd_grammar.specs.Answers.{Passes, Refuses};
 
 use crate::fault::{CommandFault, refuse};
+use crate::members::member;
 use filter_tree::{Filter, FilterFault, Filters};
 use json_tree::Value;
 use reply_env::{bad_filter, many_operands, no_filter_operator};
 use std::alloc::Global;
 
 fn refused(alloc: Global, fault: FilterFault) -> CommandFault
-    ensures { Refuses (Some (filter_error fault)) result }
+    ensures told { Refuses (Some (filter_error fault)) result }
+    ensures wanting { fault ≡ FilterFault.NoMemory → result ≡ CommandFault.NoMemory }
 {
     match fault {
         FilterFault::Invalid { path } => refuse(bad_filter(alloc, path.as_str())),
@@ -32,14 +34,11 @@ pub(crate) fn read_filter(alloc: Global, command: &Value) -> Result<Filter, Comm
     ensures answers { Passes (filter_refusal (tree command.now)) (λ f. filter_tree f ≡ filter_of (tree command.now)) result }
     ensures ready { IsWritable (tree command.now) → IfOk result (λ f. IsAskableFilter (filter_tree f)) }
 {
-    let Value::Object(members) = command else {
-        return Ok(Filter::All(Filters::new(alloc)));
-    };
-    let Some(value) = members.get("filter") else {
-        return Ok(Filter::All(Filters::new(alloc)));
-    };
-    match Filter::read(alloc, value) {
-        Ok(filter) => Ok(filter),
-        Err(fault) => Err(refused(alloc, fault)),
+    match member(command, "filter") {
+        None => Ok(Filter::All(Filters::new(alloc))),
+        Some(value) => match Filter::read(alloc, value) {
+            Ok(filter) => Ok(filter),
+            Err(fault) => Err(refused(alloc, fault)),
+        },
     }
 }
