@@ -4,6 +4,7 @@ use Rattle.std.specs.Option.{option_map, option_and_then, unwrap_or}
 use Rattle.std.specs.Str.{bytes_eq}
 use Rattle.json_tree.specs.Tree.{Tree, null, boolean, number, text, date, list, object, Members, no_members, member, members_of, list_of_members}
 use Rattle.json_tree.specs.Members.{member_at}
+use Rattle.json_tree.specs.Doc.{id_in}
 use Rattle.json_tree.specs.Writable.{IsWritable, MembersAreWritable}
 use Rattle.cmd_grammar.specs.First.{first_by}
 use Rattle.cmd_grammar.specs.Names.{command_named}
@@ -37,19 +38,19 @@ pub several : (o : Option (List ℕ)) (t : Tree) (ms : List (List ℕ × Tree)) 
 several o t ms f h = sym (ap (command_at o) f ∙ not_one o ms h)
 
 pub none_at : (ms : List (List ℕ × Tree)) → length ms ≡ 1 → None ≡ slice_get ms 0 → ⊥
-none_at [] h e = let z : 0 ≡ 1 = h in omega arith
+none_at [] h e = let z : 0 ≡ 1 = h in let no : ⊥ = omega (arith, z) in no
 none_at (m ∷ ms) h e = Prim.cc e
 
-here : (c n : List ℕ) (t : Tree) (ms : List (List ℕ × Tree)) → length ms ≡ 1 → Some (n, t) ≡ slice_get ms 0 → option_map (λ (command : Name). (command, t)) (command_named n) ≡ command_at (Some c) (object (members_of ms))
-here c n t [] h e = let z : 0 ≡ 1 = h in absurd (omega arith)
+here : (c n : List ℕ) (t : Tree) (ms : List (List ℕ × Tree)) → length ms ≡ 1 → Some (n, t) ≡ slice_get ms 0 → option_map {U = Name × Tree} (λ (command : Name). (command, t)) (command_named n) ≡ command_at (Some c) (object (members_of ms))
+here c n t [] h e = absurd (Prim.cc e)
 here c n t (m ∷ []) h e =
     let same : (n, t) ≡ m = Prim.cc e in
-    let P : List ℕ × Tree → Type 0 = λ p. option_map (λ (command : Name). (command, t)) (command_named n) ≡ option_map (λ (command : Name). (command, p.1)) (command_named p.0) in
+    let P : List ℕ × Tree → Type 0 = λ p. option_map {U = Name × Tree} (λ (command : Name). (command, t)) (command_named n) ≡ option_map {U = Name × Tree} (λ (command : Name). (command, p.1)) (command_named p.0) in
     subst P same refl
 here c n t (m ∷ k ∷ ms) h e = absurd (omega arith)
 
-pub one_named : (o : Option (List ℕ)) (c n : List ℕ) (t u : Tree) (ms : List (List ℕ × Tree)) (found : Option Name) → o ≡ Some c → u ≡ object (members_of ms) → length ms ≡ 1 → Some (n, t) ≡ slice_get ms 0 → found ≡ command_named n → option_map (λ (command : Name). (command, t)) found ≡ command_at o u
-one_named o c n t u ms found oc f h e g = ap (option_map (λ (command : Name). (command, t))) g ∙ here c n t ms h e ∙ sym (ap₂ command_at oc f)
+pub one_named : (o : Option (List ℕ)) (c n : List ℕ) (t u : Tree) (ms : List (List ℕ × Tree)) (found : Option Name) → o ≡ Some c → u ≡ object (members_of ms) → length ms ≡ 1 → Some (n, t) ≡ slice_get ms 0 → found ≡ command_named n → option_map {U = Name × Tree} (λ (command : Name). (command, t)) found ≡ command_at o u
+one_named o c n t u ms found oc f h e g = ap (option_map {U = Name × Tree} (λ (command : Name). (command, t))) g ∙ here c n t ms h e ∙ sym (ap₂ command_at oc f)
 
 -- ---- what is writable
 
@@ -69,3 +70,8 @@ member_writable name (number n) v w e = absurd (Prim.cc e)
 member_writable name (text s) v w e = absurd (Prim.cc e)
 member_writable name (date d) v w e = absurd (Prim.cc e)
 member_writable name (list ts) v w e = absurd (Prim.cc e)
+
+-- ---- the member `_id`
+
+pub id_is : (t : Tree) (ms : List (List ℕ × Tree)) (o : Option Tree) → t ≡ object (members_of ms) → o ≡ member_at (codes "_id") ms → o ≡ id_in t
+id_is t ms o f e = e ∙ ap (member_at (codes "_id")) (sym (listed ms)) ∙ ap id_in (sym f)

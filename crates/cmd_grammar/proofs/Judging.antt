@@ -129,5 +129,5 @@ inner_writable (Some c) (list ts) p e w = absurd (Prim.cc e)
 pub inserted_present : (t v : Tree) (r : Result (Unit {0}) CommandFault) → Some v ≡ member_in (codes "document") t → Passes (document_refusal v) (λ _. IsStorable v) r → Passes (inserted_refusal t) (λ _. IfSome (member_in (codes "document") t) IsStorable) r
 inserted_present t v r e h = subst (λ o. Passes (option_and_then document_refusal o) (λ _. IfSome o IsStorable) r) e h
 
-pub inserted_absent : (t : Tree) → None ≡ member_in (codes "document") t → Passes (inserted_refusal t) (λ _. IfSome (member_in (codes "document") t) IsStorable) (Ok tt)
-inserted_absent t e = subst (λ o. Passes (option_and_then document_refusal o) (λ _. IfSome o IsStorable) (Ok tt)) e (refl, tt)
+pub inserted_absent : (t : Tree) (u : Unit {0}) → None ≡ member_in (codes "document") t → Passes {X = Unit {0}} (inserted_refusal t) (λ _. IfSome (member_in (codes "document") t) IsStorable) (Ok u)
+inserted_absent t u e = subst (λ o. Passes {X = Unit {0}} (option_and_then document_refusal o) (λ _. IfSome o IsStorable) (Ok u)) e (refl, u)

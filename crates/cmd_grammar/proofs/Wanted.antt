@@ -11,25 +11,24 @@ use Rattle.filter_tree.specs.declared.fault.FilterFault.TheVariants as filter_fa
 use Rattle.cmd_grammar.specs.Refused.{member_in, filter_error, filter_refusal}
 use Rattle.cmd_grammar.specs.Asked.{filter_of}
 use Rattle.cmd_grammar.specs.Commands.{IsAskableFilter}
-use Rattle.cmd_grammar.specs.Answers.{Refuses}
+use Rattle.std.specs.Prelude.{Result}
+use Rattle.filter_tree.specs.View.{filter_tree}
+use Rattle.filter_tree.specs.declared.filter.Filter.{Filter}
+use Rattle.cmd_grammar.specs.Answers.{Refuses, Passes}
 use Rattle.cmd_grammar.specs.declared.fault.CommandFault.{CommandFault}
 use Rattle.cmd_grammar.specs.declared.fault.CommandFault.TheVariants.{Refused, NoMemory}
 
-pub absent : (t : Tree) → None ≡ member_in (codes "filter") t → filter_refusal t ≡ None
-absent t e = ap (λ o. option_map filter_error (option_and_then first_fault o)) (sym e)
+pub present : (t v : Tree) (r : Result Filter CommandFault) → Some v ≡ member_in (codes "filter") t → Passes (option_map filter_error (first_fault v)) (λ f. filter_tree f ≡ filter_in v) r → Passes (filter_refusal t) (λ f. filter_tree f ≡ filter_of t) r
+present t v r e h = subst (λ (o : Option Tree). Passes (option_map filter_error (option_and_then first_fault o)) (λ f. filter_tree f ≡ filter_in (unwrap_or o (object no_members))) r) e h
 
-pub absent_filter : (t : Tree) → None ≡ member_in (codes "filter") t → all no_filters ≡ filter_of t
-absent_filter t e = ap (λ (o : Option Tree). filter_in (unwrap_or o (object no_members))) e
+pub absent : (t v : Tree) (r : Result Filter CommandFault) → None ≡ member_in (codes "filter") t → v ≡ object no_members → Passes (option_map filter_error (first_fault v)) (λ f. filter_tree f ≡ filter_in v) r → Passes (filter_refusal t) (λ f. filter_tree f ≡ filter_of t) r
+absent t v r e is h =
+    subst (λ (o : Option Tree). Passes (option_map filter_error (option_and_then first_fault o)) (λ f. filter_tree f ≡ filter_in (unwrap_or o (object no_members))) r) e
+    (subst (λ (u : Tree). Passes (option_map filter_error (first_fault u)) (λ f. filter_tree f ≡ filter_in u) r) is h)
 
-pub present : (t v : Tree) → Some v ≡ member_in (codes "filter") t → option_map filter_error (first_fault v) ≡ filter_refusal t
-present t v e = ap (λ o. option_map filter_error (option_and_then first_fault o)) e
+pub empty_writable : (v : Tree) → v ≡ object no_members → IsWritable v
+empty_writable v e = subst IsWritable (sym e) (tt, refl)
 
-pub present_filter : (t v : Tree) → Some v ≡ member_in (codes "filter") t → filter_in v ≡ filter_of t
-present_filter t v e = ap (λ (o : Option Tree). filter_in (unwrap_or o (object no_members))) e
-
-pub faulty : (t v : Tree) (e : FilterFault) (r : CommandFault) → Some v ≡ member_in (codes "filter") t → (e ≡ filter_faults.NoMemory) ⊎ (first_fault v ≡ Some e) → Refuses (Some (filter_error e)) r → (e ≡ filter_faults.NoMemory → r ≡ NoMemory) → Refuses (filter_refusal t) r
-faulty t v e r at (inl none) told wanting = subst (λ z. Refuses (filter_refusal t) z) (sym (wanting none)) tt
-faulty t v e r at (inr is) told wanting = subst (λ o. Refuses o r) (sym (ap (option_map filter_error) is) ∙ present t v at) told
-
-pub empty_is_askable : (f : FilterTree) → f ≡ all no_filters → IsAskableFilter f
-empty_is_askable f e = subst IsAskableFilter (sym e) (record { ready = refl; writable = tt })
+pub faulty : (v : Tree) (e : FilterFault) (r : CommandFault) → (e ≡ filter_faults.NoMemory) ⊎ (first_fault v ≡ Some e) → Refuses (Some (filter_error e)) r → (e ≡ filter_faults.NoMemory → r ≡ NoMemory) → Refuses (option_map filter_error (first_fault v)) r
+faulty v e r (inl none) told wanting = subst (λ z. Refuses (option_map filter_error (first_fault v)) z) (sym (wanting none)) tt
+faulty v e r (inr is) told wanting = subst (λ o. Refuses o r) (sym (ap (option_map filter_error) is)) told

@@ -38,11 +38,11 @@ fn named<'v>(place: &Place, value: &'v Value) -> Option<(Name, &'v Value)>
     if members.len() != 1 {
         return None;
     }
-    let Some((name, inner)) = members.pair(0) else {
-        return None;
-    };
-    match command_named(name.as_str()) {
-        Some(name) => Some((name, inner)),
+    match members.pair(0) {
+        Some((name, inner)) => match command_named(name.as_str()) {
+            Some(name) => Some((name, inner)),
+            None => None,
+        },
         None => None,
     }
 }

@@ -6,4 +6,4 @@ pub returns-in-Some : goal.returns-in-Some
 returns-in-Some c = inserted_present (tree c.args.command.now) (tree c.in-Some.document.now) c.check_document.result c.in-Some.ensures c.check_document.ensures
 
 pub returns-in-None : goal.returns-in-None
-returns-in-None c = inserted_absent (tree c.args.command.now) c.in-None.ensures
+returns-in-None c = inserted_absent (tree c.args.command.now) tt c.in-None.ensures
