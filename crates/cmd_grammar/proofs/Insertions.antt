@@ -1,6 +1,6 @@
 -- The command that is read, after the tests.
 use Rattle.std.proofs.Common.{◌≡◌, ℕ, List, [], ◌∷◌, Option, Some, None, refl, ap, sym, ◌∙◌, subst, codes, Bool, true, false, if◌then◌else◌, IsTrue}
-use Rattle.std.specs.Prelude.{Result, Ok, Err}
+use Rattle.std.specs.Prelude.{Result, Ok, Err, IfOk, OnOk}
 use Rattle.std.specs.Option.{option_map, option_and_then, unwrap_or}
 use Rattle.std.specs.Str.{bytes_eq}
 use Rattle.std.proofs.lemmas.Slice.Eq.{bytes_eq-Decides}
@@ -86,3 +86,56 @@ only_name (Some name) t p own keyspace e k h = record { keyspace = k; name = nam
     named : (b : Bool) (n : List ℕ) → (if b then None else Some (bad_collection_name n)) ≡ None → IsTrue b
     named true n e = refl
     named false n e = absurd (Prim.cc e)
+
+same_keyspace : (b : Bool) (keyspace name : List ℕ) → (b ≡ true → name ≡ keyspace) → (if b then None else Some (no_keyspace name)) ≡ None → name ≡ keyspace
+same_keyspace true keyspace name same e = same refl
+same_keyspace false keyspace name same e = absurd (Prim.cc e)
+
+pub placed_of : (keyspace : List ℕ) (place : Place) (t : Tree) (p : Name × Tree) → command_at place.collection t ≡ Some p → refused keyspace place t ≡ None → IsPlaced keyspace place
+placed_of keyspace place t p e h =
+    let K : Option ErrorItem = keyspace_refusal keyspace place.keyspace in
+    let C : Option ErrorItem = collection_refusal place.collection in
+    let D : Option ErrorItem = option_and_then command_refusal (command_at place.collection t) in
+    let a = neither_fires (no_command_refusal (command_at place.collection t)) (first_of (K ∷ C ∷ D ∷ [])) h in
+    let b = neither_fires K (first_of (C ∷ D ∷ [])) a.1 in
+    let c = neither_fires C (first_of (D ∷ [])) b.1 in
+    only_name place.collection t p keyspace place.keyspace e (same_keyspace (bytes_eq place.keyspace keyspace) keyspace place.keyspace (λ q. (bytes_eq-Decides place.keyspace keyspace).0 q) b.0) c.0
+
+-- ---- the insertion that was read
+
+pub named_insertion : (place : Place) (t : Tree) (name : Name) (f : FilterTree) → name ≡ InsertOne → IsJudged place t name f → IsInsertion t
+named_insertion place t name f e j = insertion_is place t f (subst (λ (n : Name). IsJudged place t n f) e j)
+
+pub answers_insertion : (keyspace : List ℕ) (place : Place) (t : Tree) (name : Name) (f : FilterTree) (r : Result Command CommandFault) → refused keyspace place t ≡ None → name ≡ InsertOne → IsJudged place t name f → Passes None (λ c. IsInsertionOf t (command_tree c)) r → Answers keyspace place t r
+answers_insertion keyspace place t name f (Ok c) h e j p = (h, (inserted place t f (command_tree c) (subst (λ (n : Name). IsJudged place t n f) e j) p.1).0)
+answers_insertion keyspace place t name f (Err NoMemory) h e j p = tt
+answers_insertion keyspace place t name f (Err (Refused code message)) h e j p = absurd (Prim.cc p)
+
+pub ready_insertion : (place : Place) (t : Tree) (name : Name) (f : FilterTree) (r : Result Command CommandFault) → name ≡ InsertOne → IsJudged place t name f → Passes None (λ c. IsInsertionOf t (command_tree c)) r → IfOk r (λ c. IsAskable (command_tree c))
+ready_insertion place t name f (Ok c) e j p = (inserted place t f (command_tree c) (subst (λ (n : Name). IsJudged place t n f) e j) p.1).1
+ready_insertion place t name f (Err fault) e j p = tt
+
+pub placed_insertion : (P : Type 0) (r : Result Command CommandFault) → P → OnOk r P
+placed_insertion P (Ok c) p = p
+placed_insertion P (Err fault) p = tt
+
+pub asks : (place : Place) (t : Tree) (name wanted : Name) (f : FilterTree) → name ≡ wanted → (j : IsJudged place t name f) → asked place t ≡ Some (command_of wanted f (document_of j.inner))
+asks place t name wanted f e j = asked_is place t name f j ∙ ap (λ (n : Name). Some (command_of n f (document_of j.inner))) e
+
+-- ---- its parts in the body
+
+pub has_value : (t : Tree) → IsInsertion t → None ≡ member_in (codes "insertOne") t → ⊥
+has_value t i e = let is = i.is_value in Prim.cc (e, is)
+
+null_stands : (o : Option Tree) → None ≡ o → IsStorable (unwrap_or o null) → ⊥
+null_stands None e s = s.document.id
+null_stands (Some d) e s = Prim.cc e
+
+pub has_document_in : (t command : Tree) → IsInsertion t → Some command ≡ member_in (codes "insertOne") t → None ≡ member_in (codes "document") command → ⊥
+has_document_in t command i e n =
+    let both : Some command ≡ Some i.inner = e ∙ i.is_value in
+    let same : command ≡ i.inner = Prim.cc both in
+    null_stands (member_in (codes "document") command) n (subst (λ (x : Tree). IsStorable (document_of x)) (sym same) i.storable)
+
+pub joined : (t command d x : Tree) → Some command ≡ member_in (codes "insertOne") t → Some d ≡ member_in (codes "document") command → x ≡ d → IsInsertionOf t (insert_one x)
+joined t command d x e h same = ap (option_and_then (member_in (codes "document"))) (sym e) ∙ sym h ∙ ap (λ (y : Tree). Some y) (sym same)

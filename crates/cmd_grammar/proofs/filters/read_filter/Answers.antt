@@ -6,10 +6,10 @@ use Rattle.cmd_grammar.proofs.Inside.{member_writable}
 use Rattle.cmd_grammar.proofs.filters.read_filter.Goals as goal
 
 pub returns-in-Some-clause-answers : goal.returns-in-Some-clause-answers
-returns-in-Some-clause-answers c = present (tree c.args.command.now) (tree c.in-Some.value.now) c.read_value-in-Some.result c.in-Some.ensures c.read_value-in-Some.ensures.answers
+returns-in-Some-clause-answers c = present (tree c.args.command.now) (tree c.in-Some.value.now) c.read_value.result c.in-Some.ensures c.read_value.ensures.answers
 
 pub returns-in-Some-clause-ready : goal.returns-in-Some-clause-ready
-returns-in-Some-clause-ready c = λ w. c.read_value-in-Some.ensures.ready (member_writable _ (tree c.args.command.now) (tree c.in-Some.value.now) w (sym c.in-Some.ensures))
+returns-in-Some-clause-ready c = λ w. c.read_value.ensures.ready (member_writable _ (tree c.args.command.now) (tree c.in-Some.value.now) w (sym c.in-Some.ensures))
 
 pub returns-in-None-clause-answers : goal.returns-in-None-clause-answers
 returns-in-None-clause-answers c = absent (tree c.args.command.now) _ c.read_value-in-None.result c.in-None.ensures (ap (λ ms. object (members_of ms)) c.new.ensures) c.read_value-in-None.ensures.answers
