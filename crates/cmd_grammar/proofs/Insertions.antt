@@ -1,5 +1,5 @@
 -- The command that is read, after the tests.
-use Rattle.std.proofs.Common.{◌≡◌, ℕ, List, [], ◌∷◌, Option, Some, None, refl, ap, sym, ◌∙◌, subst, codes, Bool, true, false, if◌then◌else◌, IsTrue}
+use Rattle.std.proofs.Common.{◌≡◌, ◌≢◌, inl, inr, ℕ, List, [], ◌∷◌, Option, Some, None, refl, ap, sym, ◌∙◌, subst, codes, Bool, true, false, if◌then◌else◌, IsTrue}
 use Rattle.std.specs.Prelude.{Result, Ok, Err, IfOk, OnOk}
 use Rattle.std.specs.Option.{option_map, option_and_then, unwrap_or}
 use Rattle.std.specs.Str.{bytes_eq}
@@ -17,6 +17,13 @@ use Rattle.cmd_grammar.specs.Names.{command_named, command_text}
 use Rattle.cmd_grammar.specs.Commands.{CommandTree, insert_one, find_one, count_documents, command_tree, IsStorable, IsAskable}
 use Rattle.cmd_grammar.specs.Refused.{command_at, member_in, refused, no_command_refusal, keyspace_refusal, collection_refusal, command_refusal}
 use Rattle.cmd_grammar.specs.Asked.{filter_of, document_of, command_of, command_in, asked, IsPlaced}
+use Rattle.json_text.specs.Grammar.{Reads}
+use Rattle.json_text.specs.Fault.{IsFault}
+use Rattle.json_text.specs.declared.read.TextFault.{TextFault}
+use Rattle.json_text.specs.declared.read.TextFault.TheVariants as text_faults
+use Rattle.reply_env.specs.Messages.{unread}
+use Rattle.reply_env.specs.declared.request.Request.{Request}
+use Rattle.cmd_grammar.specs.Requests.{IsReadAs}
 use Rattle.cmd_grammar.specs.Judged.{IsJudged, IsInsertion, IsInsertionOf}
 use Rattle.cmd_grammar.specs.Answers.{Passes, Refuses, Answers}
 use Rattle.cmd_grammar.specs.declared.name.Name.{Name}
@@ -34,7 +41,7 @@ found_here : (b : Bool) (u : Tree) → b ≡ true → (if b then Some u else Non
 found_here true u e = refl
 found_here false u e = absurd (Prim.cc e)
 
-at_name : (n : List ℕ) (u inner : Tree) (name : Name) (o : Option Name) → o ≡ command_named n → option_map (λ (command : Name). (command, u)) o ≡ Some (name, inner) → member_in (command_text name) (object (member n u no_members)) ≡ Some inner
+at_name : (n : List ℕ) (u inner : Tree) (name : Name) (o : Option Name) → o ≡ command_named n → option_map {U = Name × Tree} (λ (command : Name). (command, u)) o ≡ Some (name, inner) → member_in (command_text name) (object (member n u no_members)) ≡ Some inner
 at_name n u inner name None e h = absurd (Prim.cc h)
 at_name n u inner name (Some k) e h =
     let pair : (k, u) ≡ (name, inner) = Prim.cc h in
@@ -139,3 +146,21 @@ has_document_in t command i e n =
 
 pub joined : (t command d x : Tree) → Some command ≡ member_in (codes "insertOne") t → Some d ≡ member_in (codes "document") command → x ≡ d → IsInsertionOf t (insert_one x)
 joined t command d x e h same = ap (option_and_then (member_in (codes "document"))) (sym e) ∙ sym h ∙ ap (λ (y : Tree). Some y) (sym same)
+
+-- ---- a request
+
+pub read_as : (keyspace : List ℕ) (request : Request) (t : Tree) (r : Result Command CommandFault) → Reads request.body.items t → Answers keyspace request.place t r → IsReadAs keyspace request r
+read_as keyspace request t (Ok c) reads a = record { value = t; reads = reads; unrefused = a.0; asks = a.1 }
+read_as keyspace request t (Err (Refused code message)) reads a = inr (record { value = t; reads = reads; refusal = a })
+read_as keyspace request t (Err NoMemory) reads a = tt
+
+refused_unread : (keyspace : List ℕ) (request : Request) (fault : TextFault) (r : CommandFault) → IsFault request.body.items fault → (fault ≡ text_faults.NoMemory → ⊥) → Refuses (Some (unread fault)) r → IsReadAs keyspace request (Err r)
+refused_unread keyspace request fault (Refused code message) is other e = inl (record { fault = fault; is_fault = is; told = other; is_error = Prim.cc e })
+refused_unread keyspace request fault NoMemory is other e = tt
+
+pub unread_as : (keyspace : List ℕ) (request : Request) (fault : TextFault) (r : CommandFault) → IsFault request.body.items fault → (fault ≢ text_faults.NoMemory → Refuses (Some (unread fault)) r) → (fault ≡ text_faults.NoMemory → r ≡ NoMemory) → IsReadAs keyspace request (Err r)
+unread_as keyspace request (text_faults.Syntax at) r is told wanting = refused_unread keyspace request (text_faults.Syntax at) r is (λ e. Prim.cc e) (told (λ e. Prim.cc e))
+unread_as keyspace request (text_faults.NotUtf8 at) r is told wanting = refused_unread keyspace request (text_faults.NotUtf8 at) r is (λ e. Prim.cc e) (told (λ e. Prim.cc e))
+unread_as keyspace request (text_faults.TooDeep at) r is told wanting = refused_unread keyspace request (text_faults.TooDeep at) r is (λ e. Prim.cc e) (told (λ e. Prim.cc e))
+unread_as keyspace request (text_faults.Number at) r is told wanting = refused_unread keyspace request (text_faults.Number at) r is (λ e. Prim.cc e) (told (λ e. Prim.cc e))
+unread_as keyspace request text_faults.NoMemory r is told wanting = subst (λ (f : CommandFault). IsReadAs keyspace request (Err f)) (sym (wanting refl)) tt

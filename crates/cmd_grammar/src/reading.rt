@@ -1,12 +1,15 @@
 // The reader of commands.
-ghost use Rattle.std.specs.Prelude.{◌≡◌, ⊤, codes, option_map, None, IfOk, IfSome, OnOk};
+ghost use Rattle.std.specs.Prelude.{◌≡◌, ◌≢◌, ⊤, codes, option_map, Some, None, IfOk, IfSome, OnOk};
+ghost use Rattle.json_text.specs.declared.read.TextFault.{TextFault};
+ghost use Rattle.reply_env.specs.Messages as errors;
+ghost use Rattle.cmd_grammar.specs.declared.fault.CommandFault.{CommandFault};
 ghost use Rattle.json_tree.specs.View.{tree};
 ghost use Rattle.json_tree.specs.Writable.{IsWritable};
 ghost use Rattle.filter_tree.specs.View.{filter_tree};
 ghost use Rattle.cmd_grammar.specs.Refused.{command_at, member_in, fields_refusal, inserted_refusal, command_refusal, refused};
 ghost use Rattle.cmd_grammar.specs.Asked.{filter_of, IsPlaced};
 ghost use Rattle.cmd_grammar.specs.Commands.{command_tree, IsAskable, IsAskableFilter, IsStorable};
-ghost use Rattle.cmd_grammar.specs.Answers.{Passes, Answers};
+ghost use Rattle.cmd_grammar.specs.Answers.{Refuses, Passes, Answers};
 ghost use Rattle.cmd_grammar.specs.Requests.{IsReadAs};
 ghost use Rattle.cmd_grammar.specs.Judged.{named_refusal, HasParts, IsJudged, IsInsertion, IsInsertionOf};
 
@@ -195,6 +198,17 @@ pub fn take_command(
     }
 }
 
+// The refusal of a body that spells no value.
+fn refuse_unread(alloc: Global, fault: TextFault) -> CommandFault
+    ensures told { fault ≢ TextFault.NoMemory → Refuses (Some (errors.unread fault)) result }
+    ensures wanting { fault ≡ TextFault.NoMemory → result ≡ CommandFault.NoMemory }
+{
+    match fault {
+        TextFault::NoMemory => CommandFault::NoMemory,
+        _ => refuse(unread(alloc, fault)),
+    }
+}
+
 /// The command that a request asks for, or the first refusal that the request alone shows: that its body spells no
 /// value comes first.
 pub fn read_request(alloc: Global, keyspace: &str, request: &Request) -> Result<Command, CommandFault>
@@ -204,7 +218,6 @@ pub fn read_request(alloc: Global, keyspace: &str, request: &Request) -> Result<
 {
     match read_value(alloc, request.body.as_slice()) {
         Ok(value) => take_command(alloc, &request.place, keyspace, value),
-        Err(TextFault::NoMemory) => Err(CommandFault::NoMemory),
-        Err(fault) => Err(refuse(unread(alloc, fault))),
+        Err(fault) => Err(refuse_unread(alloc, fault)),
     }
 }
