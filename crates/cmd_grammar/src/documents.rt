@@ -57,12 +57,7 @@ fn check_sizes(alloc: Global, document: &Value) -> Result<(), CommandFault>
 {
     match check(document) {
         Ok(()) => Ok(()),
-        Err(broken) => Err(refuse(broken_limit(
-            alloc,
-            broken.limit,
-            broken.bound,
-            broken.found,
-        ))),
+        Err(broken) => Err(refuse(broken_limit(alloc, broken.limit, broken.bound, broken.found))),
     }
 }
 

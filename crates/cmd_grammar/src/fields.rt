@@ -27,11 +27,7 @@ fn check_option(
     }
 }
 
-fn check_each_option(
-    alloc: Global,
-    fields: &[Field],
-    options: &Members,
-) -> Result<(), CommandFault>
+fn check_each_option(alloc: Global, fields: &[Field], options: &Members) -> Result<(), CommandFault>
     ensures { Passes (first_by (option_refusal (map field_of fields.now)) options.now) (λ _. ⊤) result }
 {
     for i in 0..options.len() {

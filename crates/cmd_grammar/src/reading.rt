@@ -211,7 +211,11 @@ fn refuse_unread(alloc: Global, fault: TextFault) -> CommandFault
 
 /// The command that a request asks for, or the first refusal that the request alone shows: that its body spells no
 /// value comes first.
-pub fn read_request(alloc: Global, keyspace: &str, request: &Request) -> Result<Command, CommandFault>
+pub fn read_request(
+    alloc: Global,
+    keyspace: &str,
+    request: &Request,
+) -> Result<Command, CommandFault>
     ensures answers { IsReadAs keyspace.now request.now result }
     ensures ready { IfOk result (λ c. IsAskable (command_tree c)) }
     ensures placed { OnOk result (IsPlaced keyspace.now request.now.place) }

@@ -80,13 +80,7 @@ const LONG_ROWS: [(&str, &str, usize, &str, &str); 11] = [
         r#"":1}}}"#,
         "findOne",
     ),
-    (
-        r#"{"countDocuments":{"#,
-        " ",
-        1000,
-        "}}",
-        "countDocuments",
-    ),
+    (r#"{"countDocuments":{"#, " ", 1000, "}}", "countDocuments"),
 ];
 
 fn place_of(alloc: Global, path: &str) -> Result<Place, Fail> {
