@@ -2,7 +2,7 @@
 use Rattle.std.proofs.Common.{◌≡◌, ◌<◌, ◌++◌, [], ℕ, List, Result, Ok, Err, length, take, refl, sym, ◌∙◌, ap, subst}
 use Rattle.std.specs.Prelude.{OnOk, IfErr}
 use Rattle.outside_io.specs.Told.{Writing, Takes, taken_then}
-use Rattle.store_core.specs.declared.row.Row.{Row}
+use Rattle.dapi.specs.declared.rows.Row.{Row}
 use Rattle.dapi.specs.Lines.{Splits, BeginsWith, ended_lines, last_line}
 use Rattle.dapi.specs.Piece.{TakesLines, TakesFirst, FindsWrong, StopsAt, TakesLast}
 use Rattle.dapi.specs.Sent.{ServesPiece, AnswersBefore, AnswersFirst, AnswersCut, AnswersLast, AnswersLastCut}

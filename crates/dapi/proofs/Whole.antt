@@ -5,7 +5,7 @@ use Rattle.std.proofs.Math.Seq.{take-append-add}
 use Rattle.std.specs.Option.{ForSome}
 use Rattle.outside_io.specs.Told.{Reading, Writing, Takes, Takes-append, CountsGrow, then_left, taken_then, then_left-append, taken_then-nil, then_left-nil, then_left-all}
 use Rattle.outside_io.specs.Causes.{Rose, Rose-earlier}
-use Rattle.store_core.specs.declared.row.Row.{Row}
+use Rattle.dapi.specs.declared.rows.Row.{Row}
 use Rattle.dapi.specs.Separated.{is_free_of}
 use Rattle.dapi.specs.Lines.{ended_lines, Splits, HasLines, BeginsWith, last_line}
 use Rattle.dapi.specs.Request.{is_skipped}

@@ -1,7 +1,7 @@
 -- What a run does with the bytes that wait. Only the crate's private clauses cite it.
 use Rattle.std.specs.Prelude.{◌≡◌, ℕ, ◌+◌, List, ◌∷◌, ◌++◌, length, IsTrue, ◌⊎◌}
 use Rattle.std.specs.List.{list_all}
-use Rattle.store_core.specs.declared.row.Row.{Row}
+use Rattle.dapi.specs.declared.rows.Row.{Row}
 use Rattle.dapi.specs.Separated.{is_free_of}
 use Rattle.dapi.specs.Lines.{Splits, BeginsWith, ended_lines, last_line}
 use Rattle.dapi.specs.Request.{IsRightLine, IsHopeless}

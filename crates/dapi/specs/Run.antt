@@ -2,7 +2,7 @@
 use Rattle.std.specs.Prelude.{◌≡◌, ℕ, ◌+◌, ◌^◌, ◌<◌, List, [], ◌∷◌, ◌++◌, length, take, IsTrue, ◌⊎◌}
 use Rattle.std.specs.Option.{ForSome}
 use Rattle.outside_io.specs.Told.{then_left, Reading, Writing, Takes}
-use Rattle.store_core.specs.declared.row.Row.{Row}
+use Rattle.dapi.specs.declared.rows.Row.{Row}
 use Rattle.dapi.specs.Lines.{HasLines, Splits, BeginsWith}
 use Rattle.dapi.specs.Request.{Request, Asks, is_skipped, IsRightLine, AreRightLines}
 use Rattle.dapi.specs.Reply.{reply_text}

@@ -2,7 +2,7 @@
 use Rattle.std.specs.Prelude.{◌≡◌, ℕ, ◌+◌, ◌<◌, List, [], ◌++◌, length, take, IsTrue}
 use Rattle.std.specs.List.{list_all}
 use Rattle.outside_io.specs.Told.{Writing, Takes}
-use Rattle.store_core.specs.declared.row.Row.{Row}
+use Rattle.dapi.specs.declared.rows.Row.{Row}
 use Rattle.dapi.specs.Separated.{is_free_of}
 use Rattle.dapi.specs.Lines.{Splits, BeginsWith, ended_lines, last_line}
 use Rattle.dapi.specs.Request.{IsRightLine}

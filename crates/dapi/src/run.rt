@@ -7,8 +7,8 @@ ghost use Rattle.dapi.specs.Piece.{fed, TakesLines, StopsAt, TakesLast, StopsLas
 use crate::answer::answer;
 use crate::lines::Lines;
 use crate::request::{is_hopeless, is_skipped, request_of};
+use crate::rows::Store;
 use std::alloc::Global;
-use store_core::Store;
 
 /// How a run ended.
 #[derive(Clone, Copy, Debug, PartialEq, Eq)]

@@ -8,10 +8,10 @@ ghost use Rattle.dapi.specs.Ends.{EndsRun, IsWriteEnd};
 ghost use Rattle.dapi.specs.Piece.{fed};
 ghost use Rattle.dapi.specs.Sent.{ServesPiece, EndsPiece, FinishesAs};
 
+use crate::rows::Store;
 use crate::run::{Run, RunHow, Stop, start, take_last, take_piece};
 use outside_io::{IoFault, Sink, Source, write_all};
 use std::alloc::{AllocError, Global};
-use store_core::Store;
 
 /// The most bytes of input that a run reads.
 pub const MAX_INPUT: u64 = 1_099_511_627_776;

@@ -1,13 +1,20 @@
+// The accepted documents of one collection.
 ghost use Rattle.std.specs.Prelude.{◌≡◌, ◌+◌, ◌<◌, ◌↔◌, ◌++◌, ◌∷◌, ℕ, [], true, false, length, slice_get, Some, None, IsTrue, MatchOption, IfSome};
 ghost use Rattle.json_tree.specs.Tree.{Tree};
 ghost use Rattle.json_tree.specs.Doc.{id_in};
-ghost use Rattle.store_core.specs.Rows.{HasRow, HasNoRow, IsHistory};
-ghost use Rattle.store_core.specs.Insert.{Inserts};
+ghost use Rattle.dapi.specs.Rows.{HasRow, HasNoRow, IsHistory};
+ghost use Rattle.dapi.specs.Insert.{Inserts};
 
-use crate::row::Row;
 use json_tree::{Doc, DocId};
 use std::alloc::Global;
 use std::marker::Model;
+
+/// An accepted document and its number.
+#[derive(Drop)]
+pub struct Row {
+    pub tx: u64,
+    pub doc: Doc,
+}
 
 /// What an insertion answers.
 #[derive(Clone, Copy, Debug, PartialEq, Eq)]
@@ -27,7 +34,7 @@ pub struct Store {
 
 impl Model for Store {
     ghost use Rattle.std.specs.Prelude.{List, ℕ, refl};
-    ghost use Rattle.store_core.specs.declared.row.Row.{Row};
+    ghost use Rattle.dapi.specs.declared.rows.Row.{Row};
 
     ghost Value = { List Row };
 
@@ -36,7 +43,7 @@ impl Model for Store {
 
     ghost coded = { coded_list (code_by (ℕ × Tree) (coded× coded_ℕ tree_code) (λ r. (r.tx, r.doc)) (λ p. record { tx = p.0; doc = p.1 }) (λ _. refl)) };
 
-    ghost use Rattle.store_core.specs.Rows.{IsHistory};
+    ghost use Rattle.dapi.specs.Rows.{IsHistory};
 
     ghost view = { λ a. a.rows.items };
 
