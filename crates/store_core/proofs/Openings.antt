@@ -9,19 +9,16 @@ use Rattle.store_core.proofs.Histories.{map_told, map_map}
 
 -- ---- the names
 
-found_one : List Name → Name → List Name → List Name
-found_one listed n found = if is_among n listed || is_among n found then found else found ++ n ∷ []
+abbrev found_one : List Name → Name → List Name → List Name
+found_one listed n m = if is_among n listed || is_among n m then m else m ++ n ∷ []
+
+found_if : (b : Bool) (n : Name) (listed m m' l l' : List Name) → l ≡ found_one listed n m → l' ≡ found_one listed n m' → (if b then l else l') ≡ found_one listed n (if b then m else m')
+found_if true n listed m m' l l' e f = e
+found_if false n listed m m' l l' e f = f
 
 missing-append : (listed found ns : List Name) (n : Name) → missing listed found (ns ++ n ∷ []) ≡ (if is_among n listed || is_among n (missing listed found ns) then missing listed found ns else missing listed found ns ++ n ∷ [])
 missing-append listed found [] n = refl
-missing-append listed found (x ∷ ns) n = go (is_among x listed || is_among x found)
-  where
-    step : List Name → List Name
-    step m = if is_among n listed || is_among n m then m else m ++ n ∷ []
-
-    go : (b : Bool) → (if b then missing listed found (ns ++ n ∷ []) else missing listed (found ++ x ∷ []) (ns ++ n ∷ [])) ≡ step (if b then missing listed found ns else missing listed (found ++ x ∷ []) ns)
-    go true = missing-append listed found ns n
-    go false = missing-append listed (found ++ x ∷ []) ns n
+missing-append listed found (x ∷ ns) n = found_if (is_among x listed || is_among x found) n listed (missing listed found ns) (missing listed (found ++ x ∷ []) ns) _ _ (missing-append listed found ns n) (missing-append listed (found ++ x ∷ []) ns n)
 
 or_true : (a b : Bool) → b ≡ true → a || b ≡ true
 or_true true b e = refl
