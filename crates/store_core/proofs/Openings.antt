@@ -4,7 +4,9 @@ use Rattle.std.specs.Option.{option_map}
 use Rattle.std.proofs.lemmas.List.{take_more, length-take-le, length-map}
 use Rattle.shred_cols.specs.Rows.{Rows}
 use Rattle.col_keeper.specs.Tables.{Name, Collections, Tables, rows_in, names_of, created, with_collection}
-use Rattle.store_core.specs.Opening.{is_among, missing, missed, with_name, with_name_if, with_names, opened_with, would_live}
+use Rattle.store_core.specs.Opening.{is_among, missing, missed, with_name, with_name_if, with_names, begun_with, opened_with, would_live, Prepares}
+use Rattle.store_core.specs.declared.open.Prepared.{Prepared}
+use Rattle.store_core.specs.declared.open.Prepared.TheVariants as p
 use Rattle.store_core.proofs.Histories.{map_told, map_map}
 
 -- ---- the names
@@ -94,3 +96,11 @@ same_missed names listed found t is at = is ∙ ap (λ l. missing l [] names) at
 pub so_many : (names listed found : List Name) (t : Tables) → found ≡ missing listed [] names → listed ≡ names_of t.collections → length listed + length found ≡ would_live names t
 so_many names listed found t is at =
     let a = ap length at in let b = length-map t.collections (λ c. c.name) in let d = ap length (same_missed names listed found t is at) in omega arith
+
+-- ---- what a preparation leaves, by the tables before alone
+
+pub prepares_from : {K : Type 0} (tables : K → Option Tables) (names : List Name) (old mid new : K) (r : Prepared) → tables mid ≡ tables old → Prepares tables names mid new r → Prepares tables names old new r
+prepares_from tables names old mid new (p.At first) same h = (h.0 ∙ ap (option_map (opened_with names)) same, h.1, h.2, λ t e. h.3 t (same ∙ e))
+prepares_from tables names old mid new p.TooMany same h = λ t e. let x = h t (same ∙ e) in (x.0, x.1 ∙ same)
+prepares_from tables names old mid new p.Failed same h = (h.0, h.1 ∙ ap (option_map (begun_with h.0 names)) same)
+prepares_from tables names old mid new p.NoMemory same h = (h.0, h.1 ∙ ap (option_map (begun_with h.0 names)) same)
