@@ -1,4 +1,5 @@
 use Rattle.std.proofs.Common.{◌≡◌, ◌∙◌, ◌+◌, ◌≤◌, ℕ, List, length, refl, sym, ap, arith}
+use Rattle.std.proofs.lemmas.List.{length-map}
 use Rattle.col_keeper.specs.Tables.{Name}
 use Rattle.store_core.specs.Opening.{with_names, opened_with}
 use Rattle.store_core.proofs.Histories.{map_told}
@@ -19,4 +20,5 @@ returns-in-Full-clause-prepares g c = λ t e.
     let l = ap length c.as_slice.ensures.value in
     let n = ap length (c.requires.listed t e).0 in
     let m = so_many c.args.names.now c.args.listed.now _ t c.in-Ok.ensures (c.requires.listed t e).0 in
+    let k = length-map t.collections (λ c. c.name) in
     absurd (omega arith)
