@@ -4,3 +4,4 @@ pub mod Bases
 pub mod Looking
 pub mod Openings
 pub mod Extension
+pub mod Sessions

@@ -17,3 +17,6 @@ pub use laws::points_stay;
 pub use open::OpenFault;
 pub use outcome::{Listed, Looked, NoMemory, Paged, Shaped, WriteOutcome};
 pub use store::Store;
+
+#[cfg(test)]
+mod tests;

@@ -128,6 +128,7 @@ impl<K: Keeper> Store<K> {
     /// Opens a session, and answers its number.
     pub fn open_session(&mut self, _alloc: Global) -> Result<u64, NoMemory>
         ensures opened { IfOk result (λ k. (k ≡ opened_in self.old.journal) × (self.new ≡ record self.old { journal = self.old.journal ++ Opened k ∷ [] })) }
+        ensures known { IfOk result (λ k. k < opened_in self.new.journal) }
         ensures err { OnErr result (self.new ≡ self.old) }
         ensures lawful { IsLawful self.new }
     {

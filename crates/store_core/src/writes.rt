@@ -8,6 +8,7 @@ ghost use Rattle.store_core.specs.Store.{IsLawful, SameBase, next_of};
 ghost use Rattle.store_core.specs.Tries.{IsRead};
 ghost use Rattle.store_core.specs.Outcomes.{Writes};
 ghost use Rattle.store_core.specs.Growth.{Grows};
+ghost use Rattle.store_core.specs.declared.entry.Entry.TheVariants.{Changed};
 ghost use Rattle.store_core.specs.declared.outcome.WriteOutcome.TheVariants.{VersionsSpent};
 
 use crate::enter::{enter, enter_fault};
@@ -38,6 +39,27 @@ fn text_size_of(change: &Change) -> u64
         Change::Insert { doc } => text_len(doc.value()),
         Change::Replace { doc } => text_len(doc.value()),
         Change::Delete => 0,
+    }
+}
+
+// The entry of a change.
+fn changed(
+    by: u64,
+    coll: CollName,
+    id: DocId,
+    change: Change,
+    before: Option<u64>,
+    after: u64,
+) -> Entry
+    ensures { result ≡ Changed by coll id change before after }
+{
+    Entry::Changed {
+        by,
+        coll,
+        id,
+        change,
+        before,
+        after,
     }
 }
 
@@ -111,14 +133,7 @@ impl<K: Keeper> Store<K> {
         match keep(&mut self.keeper, alloc, coll, id, read, &change, tx) {
             Tried::Done => {
                 let text = text_size_of(&change);
-                let entry = Entry::Changed {
-                    by,
-                    coll: name,
-                    id: key,
-                    change,
-                    before: read,
-                    after: tx,
-                };
+                let entry = changed(by, name, key, change, read, tx);
                 enter(&mut self.journal, &mut self.size, entry, text);
                 self.writes += 1;
                 WriteOutcome::Written { at, tx }
