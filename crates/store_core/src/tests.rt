@@ -72,11 +72,13 @@ fn opened(alloc: Global, fails: Vec<u64>, last: u64, names: &[CollName]) -> Opti
 {
     match Store::open(alloc, MemKeeper::new(alloc, fails, last), names) {
         Ok(store) => Some(store),
-        Err(OpenFault::KeeperFault {
-            keeper: _keeper,
-            before: _before,
-            after: _after,
-        }) => None,
+        Err(
+            OpenFault::KeeperFault {
+                keeper: _keeper,
+                before: _before,
+                after: _after,
+            },
+        ) => None,
         Err(OpenFault::TooMany { keeper: _keeper }) => None,
         Err(OpenFault::NoMemory { keeper: _keeper }) => None,
     }
@@ -115,10 +117,32 @@ fn a_failed_write_has_its_entry(rt: HostRuntime) -> Result<(), Fail> {
         panic!(rt; "not opened");
     };
     let steps = [
-        (A1, None, WriteOutcome::Fault { at: 1, before: 0, after: 1 }),
+        (
+            A1,
+            None,
+            WriteOutcome::Fault {
+                at: 1,
+                before: 0,
+                after: 1,
+            },
+        ),
         (A1, None, WriteOutcome::Written { at: 3, tx: 1 }),
-        (A2, None, WriteOutcome::Lost { at: 5, found: Some(1) }),
-        (A2, Some(9), WriteOutcome::Lost { at: 6, found: Some(1) }),
+        (
+            A2,
+            None,
+            WriteOutcome::Lost {
+                at: 5,
+                found: Some(1),
+            },
+        ),
+        (
+            A2,
+            Some(9),
+            WriteOutcome::Lost {
+                at: 6,
+                found: Some(1),
+            },
+        ),
         (A2, Some(1), WriteOutcome::Written { at: 7, tx: 2 }),
         (B, Some(1), WriteOutcome::Lost { at: 9, found: None }),
     ];
@@ -143,7 +167,14 @@ fn numbers_end(rt: HostRuntime) -> Result<(), Fail> {
         panic!(rt; "not opened");
     };
     let steps = [
-        (A1, None, WriteOutcome::Written { at: 1, tx: last + 1 }),
+        (
+            A1,
+            None,
+            WriteOutcome::Written {
+                at: 1,
+                tx: last + 1,
+            },
+        ),
         (A2, Some(last + 1), WriteOutcome::VersionsSpent { at: 3 }),
         (B, None, WriteOutcome::VersionsSpent { at: 4 }),
     ];

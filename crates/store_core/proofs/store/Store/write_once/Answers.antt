@@ -21,7 +21,7 @@ invariant_of-self-in-Done g c =
     let number : c.args.tx ≡ c.self.inside.first + writes_in c.self.inside.journal.items = subst (λ (s : Stored g.row.K.Denot). c.args.tx ≡ next_of s) (sym c.self.view_is) c.requires.next in
     let journal : c.enter.new.journal.items ≡ c.self.inside.journal.items ++ Changed c.args.by c.args.coll.now c.args.id.now c.args.change c.args.read c.args.tx ∷ [] =
     c.enter.ensures.entered
-    ∙ ap (λ (e : Entry). c.reserve.new.items ++ e ∷ []) c.changed-entry.ensures
+    ∙ ap (λ (e : Entry). c.reserve.new.self.items ++ e ∷ []) c.changed-entry.ensures
     ∙ ap (λ (l : List Entry). l ++ Changed c.args.by c.in-Ok-Ok.name c.in-Ok-Ok.key c.args.change c.args.read c.args.tx ∷ []) c.reserve.ensures.items
     ∙ (λ i. c.self.inside.journal.items ++ Changed c.args.by (c.in-Ok-Ok.ensures.ok i) (c.in-Ok-Ok.ensures'.ok i) c.args.change c.args.read c.args.tx ∷ []) in
     wrote_so _ _ _ _ _ _ c.self.invariant.0 _ _ _ c.self.invariant.1 _ _ _ c.args.by c.args.coll.now c.args.id.now c.args.change c.args.read c.args.tx _ _ c.text_size_of-text.result
