@@ -17,6 +17,3 @@ pub use laws::points_stay;
 pub use open::OpenFault;
 pub use outcome::{Listed, Looked, NoMemory, Paged, Shaped, WriteOutcome};
 pub use store::Store;
-
-#[cfg(test)]
-mod tests;
