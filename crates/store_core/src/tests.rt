@@ -1,4 +1,8 @@
 // Writes through a store over a keeper in memory: where told calls of the keeper fail, and where the numbers end.
+ghost use Rattle.std.specs.Prelude.{◌≡◌, ◌<◌, ◌-◌, ◌^◌, Some, IfOk, IfSome};
+ghost use Rattle.shred_cols.specs.Row.{id_of};
+ghost use Rattle.col_keeper.specs.Tables.{IsShort, KeepsLimits};
+ghost use Rattle.store_core.specs.Journal.{new_doc};
 ghost use Rattle.store_core.specs.Tries.{IsRead};
 
 use crate::entry::Change;
@@ -83,19 +87,20 @@ fn opened(alloc: Global, fails: Vec<u64>, last: u64, names: &[CollName]) -> Opti
 // A write of a text where that number was read, and its answer.
 type Step<'a> = (&'a str, Option<u64>, WriteOutcome);
 
-// Each write is answered so.
-fn each_is_answered(
-    rt: HostRuntime,
+// The place of the first write that isn't answered so.
+fn first_wrong(
+    alloc: Global,
     store: &mut Store<MemKeeper>,
     coll: &CollName,
     steps: &[Step<'_>],
-) -> Result<(), Fail> {
-    let alloc = rt.alloc();
+) -> Result<Option<usize>, Fail> {
     for i in 0..steps.len() {
         let answer = written(alloc, store, coll, steps[i].0, steps[i].1)?;
-        assert_eq!(rt; answer, Some(steps[i].2), "at {i}");
+        if answer != Some(steps[i].2) {
+            return Ok(Some(i));
+        }
     }
-    Ok(())
+    Ok(None)
 }
 
 const A1: &str = "{\"_id\":\"a\",\"n\":1}";
@@ -142,10 +147,10 @@ fn a_failed_write_has_its_entry(rt: HostRuntime) -> Result<(), Fail> {
         (A2, Some(1), WriteOutcome::Written { at: 7, tx: 2 }),
         (B, Some(1), WriteOutcome::Lost { at: 9, found: None }),
     ];
-    let answered = each_is_answered(rt, &mut store, &names[0], &steps);
+    let wrong = first_wrong(alloc, &mut store, &names[0], &steps);
     let (writes, len, size) = (store.writes(), store.journal_len(), store.journal_size());
     let keeper = store.into_keeper();
-    answered?;
+    assert_eq!(rt; wrong?, None);
     assert_eq!(rt; writes, 2);
     assert_eq!(rt; len, 9);
     assert_eq!(rt; size, 9 * 64 + 2 * 17);
@@ -174,10 +179,10 @@ fn numbers_end(rt: HostRuntime) -> Result<(), Fail> {
         (A2, Some(last + 1), WriteOutcome::VersionsSpent { at: 3 }),
         (B, None, WriteOutcome::VersionsSpent { at: 4 }),
     ];
-    let answered = each_is_answered(rt, &mut store, &names[0], &steps);
+    let wrong = first_wrong(alloc, &mut store, &names[0], &steps);
     let len = store.journal_len();
     let _keeper = store.into_keeper();
-    answered?;
+    assert_eq!(rt; wrong?, None);
     assert_eq!(rt; len, 4);
     Ok(())
 }
