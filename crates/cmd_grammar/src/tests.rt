@@ -141,12 +141,23 @@ fn repeated(
     Ok(body)
 }
 
+// Whether a row is answered so.
+fn row_holds(alloc: Global, row: &str) -> Result<bool, Fail> {
+    let Some((path, rest)) = row.split_once(' ') else {
+        return Ok(false);
+    };
+    let Some((body, text)) = rest.split_once(" => ") else {
+        return Ok(false);
+    };
+    let given = answer(alloc, path, body)?;
+    Ok(given.as_slice() == text.as_bytes())
+}
+
 #[test]
 fn requests_are_read_or_refused(rt: HostRuntime) -> Result<(), Fail> {
     let alloc = rt.alloc();
-    for (path, body, text) in rows::ROWS.iter() {
-        let given = answer(alloc, path, body)?;
-        assert!(rt; given.as_slice() == text.as_bytes(), "{path} {body}");
+    for row in rows::ROWS.split('\n') {
+        assert!(rt; row_holds(alloc, row)?, "{row}");
     }
     Ok(())
 }
