@@ -1,0 +1,7 @@
+mod Cuts
+mod Places
+mod Served
+mod Waits
+mod Sent
+mod HasLines
+mod Whole
