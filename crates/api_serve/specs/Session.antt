@@ -1,5 +1,5 @@
 -- Requests of one connection, as they were served in a session of a store.
-use Rattle.std.specs.Prelude.{◌≡◌, ℕ, ℤ, ⊤, ⊥, List, [], ◌∷◌, ◌++◌, Option}
+use Rattle.std.specs.Prelude.{◌≡◌, ℕ, ℤ, ⊤, List, [], ◌∷◌, ◌++◌, Option}
 use Rattle.std.specs.Option.{option_map, ForSome}
 use Rattle.std.specs.List.{flat_map}
 use Rattle.outside_io.specs.Times.{next_time, times_after}

@@ -1,7 +1,0 @@
-mod Cuts
-mod Places
-mod Served
-mod Waits
-mod Sent
-mod HasLines
-mod Whole
