@@ -11,3 +11,5 @@ pub mod HasLines
 pub mod Whole
 pub mod Sent
 pub mod Notes
+pub mod Histories
+pub mod Passed

@@ -5,9 +5,9 @@ use Rattle.json_text.specs.Grammar.{Reads}
 use Rattle.json_text.specs.Fault.{IsFault}
 use Rattle.json_text.specs.declared.read.TextFault.{TextFault}
 use Rattle.json_text.specs.declared.read.TextFault.TheVariants as faults
-use Rattle.store_core.specs.Rows.{HasRow, IsHistory}
-use Rattle.store_core.specs.Insert.{with_document}
-use Rattle.store_core.specs.declared.row.Row.{Row}
+use Rattle.dapi.specs.Rows.{HasRow, IsHistory}
+use Rattle.dapi.specs.Insert.{with_document}
+use Rattle.dapi.specs.declared.rows.Row.{Row}
 use Rattle.dapi.specs.Request.{Request}
 use Rattle.dapi.specs.Document.{unfit}
 use Rattle.dapi.specs.Answer.{insertion_of, AsksToInsert, Accepts, IsTaken, Settles, Answers, IsWanting}

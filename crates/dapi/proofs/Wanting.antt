@@ -1,6 +1,6 @@
 -- A reply may always be want of memory instead, with the writes of its request that were accepted.
 use Rattle.std.proofs.Common.{◌≡◌, ◌++◌, ◌∷◌, [], ℕ, List, Bool, true, false, cond, refl, inl, inr}
-use Rattle.store_core.specs.declared.row.Row.{Row}
+use Rattle.dapi.specs.declared.rows.Row.{Row}
 use Rattle.dapi.specs.Request.{Request}
 use Rattle.dapi.specs.Reply.{accepted_of, reply_text}
 use Rattle.dapi.specs.Answer.{Answers}

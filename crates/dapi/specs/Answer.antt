@@ -5,9 +5,9 @@ use Rattle.json_tree.specs.Doc.{id_in}
 use Rattle.json_text.specs.Grammar.{Reads}
 use Rattle.json_text.specs.Fault.{IsFault}
 use Rattle.json_text.specs.declared.read.TextFault.TheVariants as text_faults
-use Rattle.store_core.specs.Rows.{HasRow, HasNoRow}
-use Rattle.store_core.specs.Insert.{with_document}
-use Rattle.store_core.specs.declared.row.Row.{Row}
+use Rattle.dapi.specs.Rows.{HasRow, HasNoRow}
+use Rattle.dapi.specs.Insert.{with_document}
+use Rattle.dapi.specs.declared.rows.Row.{Row}
 use Rattle.dapi.specs.Request.{Request}
 use Rattle.dapi.specs.Document.{unfit}
 use Rattle.dapi.specs.declared.reply.Refusal.TheVariants.{NotRead, NoCommand, NotFit, AlreadyThere}

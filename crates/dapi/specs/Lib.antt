@@ -11,3 +11,5 @@ pub mod Ends
 pub mod Piece
 pub mod Sent
 pub mod Note
+pub mod Rows
+pub mod Insert

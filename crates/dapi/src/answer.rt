@@ -6,19 +6,19 @@ ghost use Rattle.json_tree.specs.Doc.{IsDocument, id_in};
 ghost use Rattle.dapi.specs.Asked.{request_of};
 ghost use Rattle.dapi.specs.Document.{unfit, id_unfit};
 ghost use Rattle.dapi.specs.Reply.{reply_text, accepted_of};
-ghost use Rattle.store_core.specs.Rows.{IsHistory};
-ghost use Rattle.store_core.specs.declared.row.Row.{Row};
+ghost use Rattle.dapi.specs.Rows.{IsHistory};
+ghost use Rattle.dapi.specs.declared.rows.Row.{Row};
 ghost use Rattle.dapi.specs.Request.{Request};
 ghost use Rattle.dapi.specs.Answer.{object_of_one, insertion_of, IsObject, IsWanting, Settles, Answers};
 ghost use Rattle.dapi.specs.declared.reply.Reply.{Reply};
 
 use crate::reply::{Refusal, Reply, Unfit, print_reply};
 use crate::request::Asked;
+use crate::rows::{FirstOutcome, Store};
 use doc_limits::{check, names_fault};
 use json_text::{TextFault, no_fault_where_read, one_fault, one_value, read_value};
 use json_tree::{Doc, TreeFault, Value};
 use std::alloc::{AllocError, Global};
-use store_core::{FirstOutcome, Store};
 
 // The value of an object's only member, where the member has this name.
 fn only_member(value: Value, name: &str) -> Option<Value>

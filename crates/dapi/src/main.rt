@@ -7,6 +7,7 @@ mod lines;
 mod note;
 mod reply;
 mod request;
+mod rows;
 mod run;
 mod serve;
 #[cfg(test)]

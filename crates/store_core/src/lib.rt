@@ -1,8 +1,17 @@
-//! The accepted documents of one collection.
+//! The store: a keeper, and the journal of what was done with it.
 #![tactic(auto)]
 
-mod row;
+mod entry;
+mod faults;
+mod keep;
+mod open;
+mod outcome;
+mod reads;
+mod shapes;
 mod store;
+mod writes;
 
-pub use row::Row;
-pub use store::{FirstOutcome, Store};
+pub use entry::{Change, Entry};
+pub use open::OpenFault;
+pub use outcome::{Listed, Looked, NoMemory, Paged, Shaped, WriteOutcome};
+pub use store::Store;

@@ -1,104 +1,156 @@
-ghost use Rattle.std.specs.Prelude.{◌≡◌, ◌+◌, ◌<◌, ◌↔◌, ◌++◌, ◌∷◌, ℕ, [], true, false, length, slice_get, Some, None, IsTrue, MatchOption, IfSome};
-ghost use Rattle.json_tree.specs.Tree.{Tree};
-ghost use Rattle.json_tree.specs.Doc.{id_in};
-ghost use Rattle.store_core.specs.Rows.{HasRow, HasNoRow, IsHistory};
-ghost use Rattle.store_core.specs.Insert.{Inserts};
+// The store: a keeper, and the journal since its base.
+ghost use Rattle.std.specs.Prelude.{◌≡◌, ◌≢◌, ℕ, ◌+◌, ◌<◌, ◌≤◌, ◌-◌, ◌^◌, [], ◌∷◌, ◌++◌, length, IfOk, OnErr, Some, None};
+ghost use Rattle.std.specs.Option.{option_map, ForSome};
+ghost use Rattle.json_text.specs.Print.{capped};
+ghost use Rattle.store_core.specs.State.{tables_of};
+ghost use Rattle.store_core.specs.Journal.{replay};
+ghost use Rattle.store_core.specs.Counts.{opened_in, writes_in, size_in};
+ghost use Rattle.store_core.specs.Store.{IsKept, IsLawful, SameBase, AtState, next_of, told_start};
+ghost use Rattle.store_core.specs.declared.entry.Entry.TheVariants.{Opened};
 
-use crate::row::Row;
-use json_tree::{Doc, DocId};
+use crate::entry::Entry;
+use crate::outcome::NoMemory;
+use col_keeper::Keeper;
 use std::alloc::Global;
 use std::marker::Model;
+use std::snapshot::Snapshot;
 
-/// What an insertion answers.
-#[derive(Clone, Copy, Debug, PartialEq, Eq)]
-pub enum FirstOutcome {
-    /// The document stands as a new row, with this number.
-    Written { tx: u64 },
-    /// The row with this number has the id already.
-    Taken { tx: u64 },
-    NoMemory,
+/// A keeper, and the journal of what was done with it since its base. The base takes no bytes.
+pub struct Store<K: Keeper> {
+    pub(crate) keeper: K,
+    pub(crate) base: Snapshot<K>,
+    pub(crate) first: u64,
+    pub(crate) journal: Vec<Entry>,
+    pub(crate) sessions: u64,
+    pub(crate) writes: u64,
+    pub(crate) size: u64,
 }
 
-/// The accepted documents in the order of their numbers, which are 1 to n. Their ids differ.
-#[derive(Drop)]
-pub struct Store {
-    rows: Vec<Row>,
+impl<K: Keeper> Model for Store<K> {
+    ghost use Rattle.store_core.specs.Store.{Stored, IsHistory, told_start, stored_code};
+    ghost use Rattle.store_core.specs.Counts.{AreCounted};
+
+    ghost Value = { Stored K };
+
+    ghost use Rattle.store_core.specs.contracts.entry.Entry as e;
+
+    ghost coded = { stored_code K.code e.the_row.coded };
+
+    ghost view = { λ s. record { keeper = s.keeper; base = s.base.value; start = told_start K.tables K.failed s.base.value; first = s.first; journal = s.journal.items } };
+
+    ghost invariant = { λ s. IsHistory (told_start K.tables K.failed s.base.value) s.first (K.failed s.base.value) s.journal.items (K.tables s.keeper) (K.failed s.keeper)
+        × AreCounted s.journal.items s.sessions s.writes s.size };
 }
 
-impl Model for Store {
-    ghost use Rattle.std.specs.Prelude.{List, ℕ, refl};
-    ghost use Rattle.store_core.specs.declared.row.Row.{Row};
-
-    ghost Value = { List Row };
-
-    ghost use Rattle.json_tree.specs.Tree.{Tree, tree_code};
-    ghost use Rattle.std.specs.Coded.{coded_list, coded×, coded_ℕ, code_by};
-
-    ghost coded = { coded_list (code_by (ℕ × Tree) (coded× coded_ℕ tree_code) (λ r. (r.tx, r.doc)) (λ p. record { tx = p.0; doc = p.1 }) (λ _. refl)) };
-
-    ghost use Rattle.store_core.specs.Rows.{IsHistory};
-
-    ghost view = { λ a. a.rows.items };
-
-    ghost invariant = { λ a. IsHistory a.rows.items };
-}
-
-impl Store {
-    /// A store without a document.
-    pub fn new(alloc: Global) -> Store
-        ensures { result ≡ [] }
+impl<K: Keeper> Store<K> {
+    /// A store whose journal begins at the keeper as it is.
+    pub(crate) fn begin(alloc: Global, keeper: K, first: u64) -> Store<K>
+        requires next { ForSome (K.tables keeper) (λ t. first ≡ t.last + 1) }
+        requires bounds { (1 ≤ first) × (first < 2 ^ 63) }
+        ensures keeper { result.keeper ≡ keeper }
+        ensures base { result.base ≡ keeper }
+        ensures start { result.start ≡ told_start K.tables K.failed keeper }
+        ensures first { result.first ≡ first }
+        ensures journal { result.journal ≡ [] }
     {
+        let _faults = keeper.faults();
         Store {
-            rows: Vec::new(alloc),
+            base: Snapshot::of(&keeper),
+            keeper,
+            first,
+            journal: Vec::new(alloc),
+            sessions: 0,
+            writes: 0,
+            size: 0,
         }
     }
 
-    /// How many documents were accepted.
-    pub fn len(&self) -> usize
-        ensures count { result ≡ length self.now }
-        ensures history { IsHistory self.now }
+    /// How many entries the journal has.
+    pub fn journal_len(&self) -> u64
+        ensures len { result ≡ length self.now.journal }
+        ensures kept { IsKept K.tables K.failed self.now }
+        ensures lawful { IsLawful self.now }
+        ensures next { AtState self.now (λ s. s.next ≡ next_of self.now) }
+        ensures sessions { AtState self.now (λ s. s.sessions ≡ opened_in self.now.journal) }
+        ensures faults { AtState self.now (λ s. s.faults ≤ K.failed self.now.keeper) }
     {
-        self.rows.len()
+        self.journal.len() as u64
     }
 
-    /// The number of the row with this id.
-    fn number_of(&self, id: &DocId) -> Option<u64>
-        ensures found { IfSome result (HasRow self.now id.now) }
-        ensures absent { result ≡ None → HasNoRow self.now id.now }
+    /// How many documents were changed since the base.
+    pub fn writes(&self) -> u64
+        ensures { result ≡ writes_in self.now.journal }
     {
-        'rows: for row in &self.rows {
-            if row.doc.id().same(id) {
-                return Some(row.tx);
-            }
-        }
-        None
+        self.writes
     }
 
-    /// Puts a row behind the others; false where memory ran out.
-    fn append(&mut self, row: Row) -> bool
-        requires new { (id : Tree) → id_in row.doc ≡ Some id → HasNoRow self.old id }
-        requires number { row.tx ≡ length self.old + 1 }
-        ensures written { result ≡ true → self.new ≡ self.old ++ row ∷ [] }
-        ensures kept { result ≡ false → self.new ≡ self.old }
+    /// 64 for each entry, and the length of the text of each new document.
+    pub fn journal_size(&self) -> u64
+        ensures { result ≡ capped (size_in self.now.journal) }
     {
-        let Ok(()) = self.rows.push(row) else {
-            return false;
-        };
-        true
+        self.size
     }
 
-    /// Puts the document behind the others, where none of them has its id.
-    pub fn insert(&mut self, doc: Doc) -> FirstOutcome
-        ensures { (id : Tree) → id_in doc ≡ Some id → Inserts self.old id doc result self.new }
+    /// The number of the first write after the base.
+    pub fn base_tx(&self) -> u64
+        ensures { result ≡ self.now.first }
     {
-        if let Some(tx) = self.number_of(doc.id()) {
-            return FirstOutcome::Taken { tx };
+        self.first
+    }
+
+    // The number of the next write.
+    pub(crate) fn next_tx(&self) -> u64
+        ensures is { result ≡ next_of self.now }
+        ensures bound { result < 2 ^ 63 }
+    {
+        self.first + self.writes
+    }
+
+    /// Gives the keeper back.
+    pub fn into_keeper(self) -> K
+        ensures keeper { result ≡ self.keeper }
+        ensures kept { IsKept K.tables K.failed self }
+        ensures tables { K.tables result ≡ option_map (λ b. tables_of (replay b self.journal)) self.start }
+    {
+        let Store {
+            keeper,
+            base: _base,
+            first: _first,
+            journal: _journal,
+            sessions: _sessions,
+            writes: _writes,
+            size: _size,
+        } = self;
+        keeper
+    }
+
+    /// Opens a session, and answers its number.
+    pub fn open_session(&mut self, _alloc: Global) -> Result<u64, NoMemory>
+        ensures opened { IfOk result (λ k. (k ≡ opened_in self.old.journal) × (self.new ≡ record self.old { journal = self.old.journal ++ Opened k ∷ [] })) }
+        ensures err { OnErr result (self.new ≡ self.old) }
+        ensures lawful { IsLawful self.new }
+    {
+        let opened = self.enter_session();
+        let _len = self.journal_len();
+        opened
+    }
+
+    // Appends the entry of a session.
+    fn enter_session(&mut self) -> Result<u64, NoMemory>
+        ensures opened { IfOk result (λ k. (k ≡ opened_in self.old.journal) × (self.new ≡ record self.old { journal = self.old.journal ++ Opened k ∷ [] })) }
+        ensures err { OnErr result (self.new ≡ self.old) }
+    {
+        if self.journal.reserve(1).is_err() {
+            return Err(NoMemory);
         }
-        let tx = self.rows.len() as u64 + 1;
-        if self.append(Row { tx, doc }) {
-            FirstOutcome::Written { tx }
-        } else {
-            FirstOutcome::NoMemory
-        }
+        let session = self.sessions;
+        self.journal.push_reserved(Entry::Opened { session });
+        let _len = self.journal.len();
+        self.sessions = session + 1;
+        self.size = self.size.saturating_add(ENTRY);
+        Ok(session)
     }
 }
+
+/// What an entry adds to the size of the journal, beside its document.
+pub(crate) const ENTRY: u64 = 64;

@@ -3,7 +3,7 @@ use Rattle.json_tree.specs.Tree.{Tree}
 use Rattle.json_tree.specs.Id.{IsId}
 use Rattle.json_tree.specs.View.{tree}
 use Rattle.json_tree.specs.Doc.{id_in}
-use Rattle.store_core.specs.Insert.{with_document}
+use Rattle.dapi.specs.Insert.{with_document}
 use Rattle.dapi.proofs.answer.insert_fit.Goals as goal
 
 has_id : (o : Option Tree) → MatchOption o ⊥ IsId → IsSome o

@@ -1,7 +1,7 @@
 use Rattle.std.proofs.Common.{◌∙◌, ◌≤◌, length, arith, ap, refl, get_or, Some}
 use Rattle.std.proofs.lemmas.Option.{slice_get_read}
-use Rattle.store_core.proofs.Passed.{below_none, below_one_more, below_all}
-use Rattle.store_core.proofs.store.Store.number_of.Goals as goal
+use Rattle.dapi.proofs.Passed.{below_none, below_one_more, below_all}
+use Rattle.dapi.proofs.rows.Store.number_of.Goals as goal
 
 pub rows-init : goal.rows-init
 rows-init c = below_none _ _

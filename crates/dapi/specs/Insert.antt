@@ -1,10 +1,10 @@
 -- What an insertion answers, and what it leaves.
 use Rattle.std.specs.Prelude.{◌≡◌, ◌+◌, List, [], ◌∷◌, ◌++◌, length}
 use Rattle.json_tree.specs.Tree.{Tree}
-use Rattle.store_core.specs.declared.row.Row.{Row}
-use Rattle.store_core.specs.declared.store.FirstOutcome.{FirstOutcome}
-use Rattle.store_core.specs.declared.store.FirstOutcome.TheVariants.{Written, Taken, NoMemory}
-use Rattle.store_core.specs.Rows.{HasRow, HasNoRow}
+use Rattle.dapi.specs.declared.rows.Row.{Row}
+use Rattle.dapi.specs.declared.rows.FirstOutcome.{FirstOutcome}
+use Rattle.dapi.specs.declared.rows.FirstOutcome.TheVariants.{Written, Taken, NoMemory}
+use Rattle.dapi.specs.Rows.{HasRow, HasNoRow}
 
 -- the rows with the document as one more, whose number is then how many they are
 abbrev pub with_document : List Row → Tree → List Row

@@ -2,8 +2,8 @@
 use Rattle.std.proofs.Common.{◌≡◌, ◌+◌, ◌++◌, ◌∷◌, [], ℕ, List, slice_get, Some, length, sym, ◌∙◌, ap, subst, refl, zero, suc}
 use Rattle.json_tree.specs.Tree.{Tree}
 use Rattle.json_tree.specs.Doc.{id_in}
-use Rattle.store_core.specs.declared.row.Row.{Row}
-use Rattle.store_core.specs.Rows.{HasRow, HasNoRow, IsHistory}
+use Rattle.dapi.specs.declared.rows.Row.{Row}
+use Rattle.dapi.specs.Rows.{HasRow, HasNoRow, IsHistory}
 
 pub data Stands (rows : List Row) (last : Row) (place : ℕ) (row : Row) : Type 0 where
   before : slice_get rows place ≡ Some row → Stands rows last place row

@@ -2,7 +2,7 @@
 use Rattle.std.specs.Prelude.{◌≡◌, ℕ, ◌+◌, List, slice_get, Some}
 use Rattle.json_tree.specs.Tree.{Tree}
 use Rattle.json_tree.specs.Doc.{id_in}
-use Rattle.store_core.specs.declared.row.Row.{Row}
+use Rattle.dapi.specs.declared.rows.Row.{Row}
 
 -- a row has this id and this number
 pub record HasRow (rows : List Row) (id : Tree) (tx : ℕ) : Type 0 where

@@ -1,6 +1,6 @@
 use Rattle.std.proofs.Common.{◌≡◌, ap, ◌∙◌, refl, length, ◌+◌, ◌++◌, ◌∷◌, [], arith}
-use Rattle.store_core.proofs.Histories.{no_row_same}
-use Rattle.store_core.proofs.store.Store.insert.Goals as goal
+use Rattle.dapi.proofs.Histories.{no_row_same}
+use Rattle.dapi.proofs.rows.Store.insert.Goals as goal
 
 pub append-requires-clause-new : goal.append-requires-clause-new
 append-requires-clause-new c = λ id has. no_row_same c.args.self.now c.id.result.now id (Prim.cc (c.id.ensures, has)) (c.number_of.ensures.absent c.in_default.is)

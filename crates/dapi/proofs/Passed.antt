@@ -3,8 +3,8 @@ use Rattle.std.proofs.Common.{◌≡◌, ◌<◌, ◌+◌, ◌≤◌, ℕ, List,
 use Rattle.std.proofs.lemmas.Option.{slice_get_within, slice_get_read}
 use Rattle.json_tree.specs.Tree.{Tree}
 use Rattle.json_tree.specs.Doc.{id_in}
-use Rattle.store_core.specs.declared.row.Row.{Row}
-use Rattle.store_core.specs.Rows.{HasNoRow}
+use Rattle.dapi.specs.declared.rows.Row.{Row}
+use Rattle.dapi.specs.Rows.{HasNoRow}
 
 -- none of the first n rows has this id
 abbrev pub HasNoRowBelow : List Row → Tree → ℕ → Type 0

@@ -1,5 +1,5 @@
-use Rattle.store_core.proofs.Histories.{history_append}
-use Rattle.store_core.proofs.store.Store.append.Goals as goal
+use Rattle.dapi.proofs.Histories.{history_append}
+use Rattle.dapi.proofs.rows.Store.append.Goals as goal
 
 pub invariant_of-self-2 : goal.invariant_of-self-2
 invariant_of-self-2 c =
