@@ -5,12 +5,13 @@ use Rattle.std.specs.Option.{option_map, ForSome}
 use Rattle.std.specs.List.{flat_map}
 use Rattle.reply_env.specs.Reply.{reply_text}
 use Rattle.reply_env.specs.declared.request.Request.{Request}
-use Rattle.api_serve.specs.Stub.{Exchange, IsSession, AllBy, AreCounted}
+use Rattle.cmd_tasks.specs.Session.{Exchange, IsSession, AreCounted}
+use Rattle.store_core.specs.Counts.{AllBy}
 use Rattle.api_serve.specs.Grown.{Grown}
 use Rattle.api_serve.specs.Session.{Service, Serving, Makes, AreAsked, AreTraces, AreMoments, times_behind, reply_lines}
-use Rattle.api_serve.specs.declared.stub.Entry.{Entry}
-use Rattle.api_serve.specs.declared.stub.Entry.TheVariants.{Opened, Failed}
-use Rattle.api_serve.specs.declared.stub.Trace.{Trace}
+use Rattle.store_core.specs.declared.entry.Entry.{Entry}
+use Rattle.store_core.specs.declared.entry.Entry.TheVariants.{Opened, Created, Dropped, Changed, Failed}
+use Rattle.cmd_tasks.specs.declared.trace.Trace.{Trace}
 
 AllBy-append : (k : ℕ) (xs ys : List Entry) → AllBy k xs → AllBy k ys → AllBy k (xs ++ ys)
 AllBy-append k [] ys p q = q
@@ -19,12 +20,19 @@ AllBy-append k (x ∷ xs) ys p q = (p.0, AllBy-append k xs ys p.1 q)
 -- counts that lie in a range lie in a wider one
 counted_wider : (low high below above : ℕ) (xs : List Entry) → below ≤ low → high ≤ above → AreCounted low high xs → AreCounted below above xs
 counted_wider low high below above [] p q h = tt
-counted_wider low high below above (Opened k ∷ xs) p q h = (tt, counted_wider low high below above xs p q h.1)
-counted_wider low high below above (Failed by b a ∷ xs) p q h = ((omega (arith, p, h.0.0), omega (arith, q, h.0.1)), counted_wider low high below above xs p q h.1)
+counted_wider low high below above (Opened k ∷ xs) p q h = counted_wider low high below above xs p q h
+counted_wider low high below above (Created by coll ∷ xs) p q h = counted_wider low high below above xs p q h
+counted_wider low high below above (Dropped by coll ∷ xs) p q h = counted_wider low high below above xs p q h
+counted_wider low high below above (Changed by coll id change before tx ∷ xs) p q h = counted_wider low high below above xs p q h
+counted_wider low high below above (Failed by b a ∷ xs) p q h = (omega (arith, p, h.0), omega (arith, q, h.1), counted_wider low high below above xs p q h.2)
 
 counted_append : (low high : ℕ) (xs ys : List Entry) → AreCounted low high xs → AreCounted low high ys → AreCounted low high (xs ++ ys)
 counted_append low high [] ys p q = q
-counted_append low high (x ∷ xs) ys p q = (p.0, counted_append low high xs ys p.1 q)
+counted_append low high (Opened k ∷ xs) ys p q = counted_append low high xs ys p q
+counted_append low high (Created by coll ∷ xs) ys p q = counted_append low high xs ys p q
+counted_append low high (Dropped by coll ∷ xs) ys p q = counted_append low high xs ys p q
+counted_append low high (Changed by coll id change before tx ∷ xs) ys p q = counted_append low high xs ys p q
+counted_append low high (Failed by b a ∷ xs) ys p q = (p.0, p.1, counted_append low high xs ys p.2 q)
 
 pub Grown-none : (k : ℕ) (journal : List Entry) (failed : ℕ) → Grown k journal failed journal failed
 Grown-none k journal failed = record { more = []; journal_is = sym (append-nil journal); alone = tt; counted = tt; grows = omega arith }

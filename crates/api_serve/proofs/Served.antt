@@ -8,8 +8,8 @@ use Rattle.api_serve.specs.Separated.{is_free_of}
 use Rattle.api_serve.specs.Lines.{ended_lines, Splits}
 use Rattle.api_serve.specs.Request.{Asks, AskFor, AreRightLines, is_skipped, parts_of}
 use Rattle.api_serve.specs.Run.{Serves}
-use Rattle.api_serve.specs.Stub.{Exchange}
-use Rattle.api_serve.specs.Asked2.{IsAskedBy}
+use Rattle.cmd_tasks.specs.Session.{Exchange}
+use Rattle.api_serve.specs.Answered.{IsAskedBy}
 use Rattle.reply_env.specs.Reply.{reply_text}
 use Rattle.reply_env.specs.declared.reply.Reply.{Reply}
 use Rattle.reply_env.specs.declared.request.Request.{Request}

@@ -1,7 +1,8 @@
 -- What a session adds to a history.
 use Rattle.std.specs.Prelude.{◌≡◌, ℕ, ◌≤◌, List, ◌++◌}
-use Rattle.api_serve.specs.Stub.{AllBy, AreCounted}
-use Rattle.api_serve.specs.declared.stub.Entry.{Entry}
+use Rattle.store_core.specs.Counts.{AllBy}
+use Rattle.cmd_tasks.specs.Session.{AreCounted}
+use Rattle.store_core.specs.declared.entry.Entry.{Entry}
 
 -- the history is longer by entries of this session, and the numbers of its failed calls lie between the keeper's counts
 pub record Grown (session : ℕ) (journal : List Entry) (failed : ℕ) (longer : List Entry) (failed_then : ℕ) : Type 0 where

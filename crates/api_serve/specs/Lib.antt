@@ -1,9 +1,8 @@
-pub mod Stub
 pub mod Separated
 pub mod Lines
 pub mod Request
 pub mod Asked
-pub mod Asked2
+pub mod Answered
 pub mod Grown
 pub mod Session
 pub mod Run

@@ -5,10 +5,12 @@ use Rattle.outside_io.specs.Told.{then_left, Reading, Writing, Takes}
 use Rattle.reply_env.specs.declared.request.Request.{Request}
 use Rattle.api_serve.specs.Lines.{HasLines, Splits, BeginsWith}
 use Rattle.api_serve.specs.Request.{AskFor, IsRightLine, AreRightLines}
-use Rattle.api_serve.specs.Stub.{State, Exchange, IsSession, AllBy, AreCounted, opened_in}
+use Rattle.store_core.specs.State.{State}
+use Rattle.cmd_tasks.specs.Session.{Exchange, IsSession, AreCounted}
+use Rattle.store_core.specs.Counts.{AllBy, opened_in}
 use Rattle.api_serve.specs.Session.{Service, Serving, Makes, AreAsked, AreTraces, AreMoments, reply_lines}
-use Rattle.api_serve.specs.declared.stub.Entry.{Entry}
-use Rattle.api_serve.specs.declared.stub.Entry.TheVariants.{Opened}
+use Rattle.store_core.specs.declared.entry.Entry.{Entry}
+use Rattle.store_core.specs.declared.entry.Entry.TheVariants.{Opened}
 
 -- between two moments of a session the requests of these lines were served, with these replies
 pub record Serves (service : Service) (before : Serving) (lines : List (List ℕ)) (output : List ℕ) (after : Serving) : Type 0 where

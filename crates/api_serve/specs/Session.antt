@@ -5,11 +5,12 @@ use Rattle.std.specs.List.{flat_map}
 use Rattle.outside_io.specs.Times.{next_time, times_after}
 use Rattle.reply_env.specs.Reply.{reply_text}
 use Rattle.reply_env.specs.declared.request.Request.{Request}
-use Rattle.api_serve.specs.Stub.{State, Exchange, IsSession}
+use Rattle.store_core.specs.State.{State}
+use Rattle.cmd_tasks.specs.Session.{Exchange, IsSession}
 use Rattle.api_serve.specs.Grown.{Grown}
-use Rattle.api_serve.specs.Asked2.{IsAskedBy, IsTraceOf}
-use Rattle.api_serve.specs.declared.stub.Entry.{Entry}
-use Rattle.api_serve.specs.declared.stub.Trace.{Trace}
+use Rattle.api_serve.specs.Answered.{IsAskedBy, IsTraceOf}
+use Rattle.store_core.specs.declared.entry.Entry.{Entry}
+use Rattle.cmd_tasks.specs.declared.trace.Trace.{Trace}
 
 -- one exchange for each request, in order
 abbrev pub AreAsked : List ℕ → List Request → List Exchange → Type 0

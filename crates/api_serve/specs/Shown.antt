@@ -1,9 +1,9 @@
 -- What a store, traces and a clock show of a session. Only the crate's private clauses cite it.
 use Rattle.std.specs.Prelude.{ℕ, ℤ, List, Option}
-use Rattle.api_serve.specs.Stub.{State}
+use Rattle.store_core.specs.State.{State}
 use Rattle.api_serve.specs.Session.{Service, Serving}
-use Rattle.api_serve.specs.declared.stub.Entry.{Entry}
-use Rattle.api_serve.specs.declared.stub.Trace.{Trace}
+use Rattle.store_core.specs.declared.entry.Entry.{Entry}
+use Rattle.cmd_tasks.specs.declared.trace.Trace.{Trace}
 
 abbrev pub service_of : List ℕ → Option State → ℕ → Service
 service_of keyspace start number = record { keyspace = keyspace; start = start; number = number }

@@ -7,7 +7,6 @@ mod one;
 mod request;
 mod run;
 mod serve;
-mod stub;
 
 pub use run::RunHow;
 pub use serve::{RunEnd, run_lines};

@@ -1,22 +1,30 @@
 //! One request of a session.
-ghost use Rattle.std.specs.Prelude.{◌≡◌, ◌++◌, ◌∷◌, ◌<◌, ◌⊎◌, ℕ, ℤ, List, [], IfOk, OnOk, OnErr, Err};
+ghost use Rattle.std.specs.Prelude.{◌≡◌, ◌++◌, ◌∷◌, ◌<◌, ◌⊎◌, ℕ, ℤ, List, [], IfOk, OnOk, OnErr, Err, IfSome, Some};
 ghost use Rattle.std.specs.Option.{ForSome};
 ghost use Rattle.reply_env.specs.Reply.{reply_text};
-ghost use Rattle.api_serve.specs.Stub.{Exchange, IsSession, opened_in, IsLawful};
+ghost use Rattle.cmd_tasks.specs.Session.{Exchange, IsSession};
+ghost use Rattle.store_core.specs.Counts.{opened_in};
+ghost use Rattle.store_core.specs.Store.{IsLawful, SameBase};
 ghost use Rattle.api_serve.specs.Grown.{Grown};
-ghost use Rattle.api_serve.specs.Asked2.{IsAskedBy, IsTraceOf};
+ghost use Rattle.api_serve.specs.Answered.{IsAskedBy, IsTraceOf};
 ghost use Rattle.api_serve.specs.Session.{Makes, Service};
 ghost use Rattle.api_serve.specs.Shown.{service_of, serving_of};
 ghost use Rattle.api_serve.specs.Request.{IsRightLine};
 ghost use Rattle.api_serve.specs.Run.{Serves};
-ghost use Rattle.api_serve.specs.One.{Answers, CutShort};
+ghost use Rattle.cmd_grammar.specs.Commands.{command_tree, IsAskable};
+ghost use Rattle.api_serve.specs.One.{Answers, Performs, IsUnserved, IsRefusedAs, CutShort};
 
 use crate::request::{is_skipped, request_of};
-use crate::stub::{Store, Trace};
+use cmd_grammar::{Command, CommandFault, read_request};
+use cmd_tasks::{Task, Trace, a_request_begins, serve};
 use col_keeper::Keeper;
 use outside_io::{Clock, NoMemory};
-use reply_env::{Reply, Request, print_reply};
+use doc_paths::CollName;
+use json_tree::Text;
+use name_tables::Code;
+use reply_env::{ErrorItem, Reply, Request, print_reply, refusal};
 use std::alloc::Global;
+use store_core::Store;
 
 /// A request that was served: its reply, and the trace of its steps.
 #[derive(Drop)]
@@ -33,6 +41,64 @@ pub enum LineStop {
     NoMemory,
 }
 
+// A request of which nothing was read: memory was wanting.
+fn unread(moment: i64, alloc: Global) -> Answered
+    ensures { IsUnserved moment result }
+{
+    Answered {
+        reply: Reply::NoMemory { accepted: 0 },
+        trace: Trace::new(alloc, moment),
+    }
+}
+
+// A request that is refused by itself.
+fn refused(moment: i64, alloc: Global, code: Code, message: Text) -> Answered
+    ensures { IsRefusedAs moment (record { code = code; message = message }) result }
+{
+    let trace = Trace::new(alloc, moment);
+    match refusal(alloc, ErrorItem { code, message }) {
+        Ok(reply) => Answered { reply, trace },
+        Err(_) => Answered {
+            reply: Reply::NoMemory { accepted: 0 },
+            trace,
+        },
+    }
+}
+
+// The collection of a request's path.
+fn collection_of(alloc: Global, request: &Request) -> Option<CollName>
+    ensures { IfSome result (λ coll. request.now.place.collection ≡ Some coll) }
+{
+    let Some(name) = &request.place.collection else {
+        return None;
+    };
+    match CollName::read(alloc, name.as_str()) {
+        Ok(coll) => Some(coll),
+        Err(_) => None,
+    }
+}
+
+// Serves a command to its end.
+fn perform<K: Keeper>(
+    alloc: Global,
+    session: u64,
+    coll: CollName,
+    moment: i64,
+    command: Command,
+    store: &mut Store<K>,
+) -> Answered
+    requires known { session < opened_in store.old.journal }
+    requires ready { IsAskable (command_tree command) }
+    ensures performs { Performs session coll (command_tree command) moment store.old.start store.old.journal store.new.journal result }
+    ensures grown { Grown session store.old.journal (K.failed store.old.keeper) store.new.journal (K.failed store.new.keeper) }
+    ensures base { SameBase store.old store.new }
+    ensures lawful { IsLawful store.new }
+{
+    let task = Task::new(alloc, session, coll, moment, command);
+    let (reply, trace) = serve(alloc, store, task).into_served();
+    Answered { reply, trace }
+}
+
 // Serves a request to its end.
 fn answer<K: Keeper>(
     alloc: Global,
@@ -45,15 +111,21 @@ fn answer<K: Keeper>(
     requires known { session < opened_in store.old.journal }
     ensures answers { Answers keyspace.now session moment request.now store.old.start store.old.journal store.new.journal result }
     ensures grown { Grown session store.old.journal (K.failed store.old.keeper) store.new.journal (K.failed store.new.keeper) }
-    ensures start { store.new.start ≡ store.old.start }
+    ensures base { SameBase store.old store.new }
     ensures lawful { IsLawful store.new }
 {
-    Answered {
-        reply: Reply::NoMemory { accepted: 0 },
-        trace: Trace {
-            moment,
-            items: Vec::new(alloc),
-        },
+    store.journal_len();
+    a_request_begins();
+    let command = match read_request(alloc, keyspace, request) {
+        Ok(command) => command,
+        Err(CommandFault::Refused { code, message }) => {
+            return refused(moment, alloc, code, message);
+        }
+        Err(CommandFault::NoMemory) => return unread(moment, alloc),
+    };
+    match collection_of(alloc, request) {
+        Some(coll) => perform(alloc, session, coll, moment, command, store),
+        None => unread(moment, alloc),
     }
 }
 
@@ -74,7 +146,7 @@ fn serve_request<K: Keeper, C: Clock>(
         (serving_of store.new.journal (K.failed store.new.keeper) traces.new.items (C.times clock.new))) }
     ensures kept { OnErr result (serving_of store.new.journal (K.failed store.new.keeper) traces.new.items (C.times clock.new)
         ≡ serving_of store.old.journal (K.failed store.old.keeper) traces.old.items (C.times clock.old)) }
-    ensures start { store.new.start ≡ store.old.start }
+    ensures base { SameBase store.old store.new }
     ensures known { session < opened_in store.new.journal }
     ensures lawful { IsLawful store.new }
 {
@@ -127,7 +199,7 @@ pub fn serve_line<K: Keeper, C: Clock>(
         (serving_of store.old.journal (K.failed store.old.keeper) traces.old.items (C.times clock.old))
         (serving_of store.new.journal (K.failed store.new.keeper) traces.new.items (C.times clock.new)) }
     ensures kept { OnErr result (out.new.items ≡ out.old.items) }
-    ensures start { store.new.start ≡ store.old.start }
+    ensures base { SameBase store.old store.new }
     ensures known { session < opened_in store.new.journal }
     ensures lawful { IsLawful store.new }
 {

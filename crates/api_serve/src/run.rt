@@ -1,16 +1,18 @@
 //! Lines that are served as their bytes come.
 ghost use Rattle.std.specs.Prelude.{◌≡◌, ◌++◌, ◌+◌, ◌^◌, ◌<◌, ℕ, List, [], length, Err, IfErr, OnOk, OnErr};
-ghost use Rattle.api_serve.specs.Stub.{opened_in, IsLawful};
+ghost use Rattle.store_core.specs.Counts.{opened_in};
+ghost use Rattle.store_core.specs.Store.{IsLawful, SameBase};
 ghost use Rattle.api_serve.specs.Shown.{service_of, serving_of};
 ghost use Rattle.api_serve.specs.Piece.{fed, TakesLines, StopsAt, TakesLast, StopsLast};
 
 use crate::lines::Lines;
 use crate::one::{LineStop, serve_line};
 use crate::request::is_hopeless;
-use crate::stub::{Store, Trace};
+use cmd_tasks::Trace;
 use col_keeper::Keeper;
 use outside_io::Clock;
 use std::alloc::Global;
+use store_core::Store;
 
 /// How a run ended.
 #[derive(Clone, Copy, Debug, PartialEq, Eq)]
@@ -84,7 +86,7 @@ fn serve_lines<K: Keeper, C: Clock>(
     ensures stopped { IfErr result (StopsAt (service_of keyspace.now store.old.start session)
         (serving_of store.old.journal (K.failed store.old.keeper) run.old.traces.items (C.times clock.old)) run.old
         (serving_of store.new.journal (K.failed store.new.keeper) run.new.traces.items (C.times clock.new)) run.new) }
-    ensures start { store.new.start ≡ store.old.start }
+    ensures base { SameBase store.old store.new }
     ensures known { session < opened_in store.new.journal }
     ensures lawful { IsLawful store.new }
 {
@@ -134,7 +136,7 @@ pub fn take_piece<K: Keeper, C: Clock>(
     ensures stopped { IfErr result (StopsAt (service_of keyspace.now store.old.start session)
         (serving_of store.old.journal (K.failed store.old.keeper) run.old.traces.items (C.times clock.old)) (fed run.old piece.now)
         (serving_of store.new.journal (K.failed store.new.keeper) run.new.traces.items (C.times clock.new)) run.new) }
-    ensures start { store.new.start ≡ store.old.start }
+    ensures base { SameBase store.old store.new }
     ensures known { session < opened_in store.new.journal }
     ensures lawful { IsLawful store.new }
 {
@@ -162,7 +164,7 @@ pub fn take_last<K: Keeper, C: Clock>(
     ensures stopped { IfErr result (StopsLast (service_of keyspace.now store.old.start session)
         (serving_of store.old.journal (K.failed store.old.keeper) run.old.traces.items (C.times clock.old)) run.old
         (serving_of store.new.journal (K.failed store.new.keeper) run.new.traces.items (C.times clock.new)) run.new) }
-    ensures start { store.new.start ≡ store.old.start }
+    ensures base { SameBase store.old store.new }
     ensures known { session < opened_in store.new.journal }
     ensures lawful { IsLawful store.new }
 {

@@ -4,18 +4,20 @@ ghost use Rattle.std.specs.Option.{ForSome};
 ghost use Rattle.outside_io.specs.Causes.{Rose};
 ghost use Rattle.outside_io.specs.Told.{then_left, Takes, CountsGrow};
 ghost use Rattle.api_serve.specs.Run.{HasRead, Serves, ServesLines};
-ghost use Rattle.api_serve.specs.Stub.{opened_in, IsLawful};
+ghost use Rattle.store_core.specs.Counts.{opened_in};
+ghost use Rattle.store_core.specs.Store.{IsLawful, SameBase};
 ghost use Rattle.api_serve.specs.Ends.{EndsRun, IsWriteEnd};
 ghost use Rattle.api_serve.specs.Piece.{fed};
 ghost use Rattle.api_serve.specs.Sent.{ServesPiece, EndsPiece, FinishesAs};
 ghost use Rattle.api_serve.specs.Shown.{service_of, serving_of};
-ghost use Rattle.api_serve.specs.declared.stub.Trace.{Trace as Kept};
+ghost use Rattle.cmd_tasks.specs.declared.trace.Trace.{Trace as Kept};
 
 use crate::run::{Run, RunHow, Stop, start, take_last, take_piece};
-use crate::stub::{Store, Trace, a_session_opens};
+use cmd_tasks::{Trace, a_session_opens};
 use col_keeper::Keeper;
 use outside_io::{Clock, IoFault, Sink, Source, write_all};
 use std::alloc::{AllocError, Global};
+use store_core::Store;
 
 /// The most bytes of input that a run reads.
 pub const MAX_INPUT: u64 = 1_099_511_627_776;
@@ -99,7 +101,7 @@ fn serve_piece<W: Sink, K: Keeper, C: Clock>(
         (serving_of store.new.journal (K.failed store.new.keeper) run.new.traces.items (C.times clock.new))
         (W.writing sink.old) (W.writing sink.new)) }
     ensures grows { CountsGrow (W.writing sink.old) (W.writing sink.new) }
-    ensures start { store.new.start ≡ store.old.start }
+    ensures base { SameBase store.old store.new }
     ensures known { session < opened_in store.new.journal }
     ensures lawful { IsLawful store.new }
 {
@@ -132,7 +134,7 @@ fn finish<W: Sink, K: Keeper, C: Clock>(
         (serving_of store.new.journal (K.failed store.new.keeper) run.new.traces.items (C.times clock.new))
         (W.writing sink.old) (W.writing sink.new) result }
     ensures grows { CountsGrow (W.writing sink.old) (W.writing sink.new) }
-    ensures start { store.new.start ≡ store.old.start }
+    ensures base { SameBase store.old store.new }
     ensures lawful { IsLawful store.new }
 {
     match take_last(alloc, keyspace, session, store, clock, run) {
@@ -165,7 +167,7 @@ fn serve_pieces<S: Source, W: Sink, K: Keeper, C: Clock>(
         (serving_of store.new.journal (K.failed store.new.keeper) run.new.traces.items (C.times clock.new)))
         (S.reading source.old) (S.reading source.new) (W.writing sink.old) (W.writing sink.new) result }
     ensures bounded { (count : ℕ) × (count ≤ 2 ^ 40) × HasRead (S.reading source.old) (S.reading source.new) count }
-    ensures start { store.new.start ≡ store.old.start }
+    ensures base { SameBase store.old store.new }
     ensures lawful { IsLawful store.new }
 {
     store.journal_len();
@@ -222,7 +224,7 @@ fn serve_session<S: Source, W: Sink, K: Keeper, C: Clock>(
         (serving_of store.new.journal (K.failed store.new.keeper) traces (C.times clock.new)))
         (S.reading source.old) (S.reading source.new) (W.writing sink.old) (W.writing sink.new) result.how }
     ensures bounded { (count : ℕ) × (count ≤ 2 ^ 40) × HasRead (S.reading source.old) (S.reading source.new) count }
-    ensures start { store.new.start ≡ store.old.start }
+    ensures base { SameBase store.old store.new }
     ensures lawful { IsLawful store.new }
 {
     let mut run = start(alloc);
@@ -260,7 +262,7 @@ pub fn run_lines<S: Source, W: Sink, K: Keeper, C: Clock>(
         ⊎ ((result.how ≡ RunHow.NoMemory) × (result.traces.items ≡ []) × (store.new.journal ≡ store.old.journal)
         × (source.new ≡ source.old) × (sink.new ≡ sink.old)) }
     ensures bounded { (count : ℕ) × (count ≤ 2 ^ 40) × HasRead (S.reading source.old) (S.reading source.new) count }
-    ensures start { store.new.start ≡ store.old.start }
+    ensures base { SameBase store.old store.new }
     ensures lawful { IsLawful store.new }
 {
     store.journal_len();

@@ -1,6 +1,7 @@
 use Rattle.std.proofs.Common.{◌≡◌, ◌≤◌, ◌<◌}
 use Rattle.outside_io.specs.Told.{CountsGrow}
-use Rattle.api_serve.specs.Stub.{IsLawful, opened_in}
+use Rattle.store_core.specs.Store.{IsLawful, SameBase}
+use Rattle.store_core.specs.Counts.{opened_in}
 use Rattle.api_serve.specs.Shown.{service_of, serving_of}
 use Rattle.api_serve.proofs.Whole.{IsAt}
 use Rattle.api_serve.proofs.serve.serve_pieces.Given as goal
@@ -13,7 +14,7 @@ invariant-pieces g l = record {
       (serving_of l.store.journal (g.K.Keeper.failed l.store.keeper) l.run.traces.items (g.C.Clock.times l.clock)) l.run l.unread;
   reads_grow : (g.S.Source.reading l.fn.source).failed ≤ (g.S.Source.reading l.source).failed;
   writes_grow : CountsGrow (g.W.Sink.writing l.fn.sink) (g.W.Sink.writing l.sink);
-  start : l.store.start ≡ l.fn.store.start;
+  base : SameBase l.fn.store l.store;
   known : l.session < opened_in l.store.journal;
   lawful : IsLawful l.store;
 }
