@@ -1,0 +1,34 @@
+-- A request whose tests have been made. Only the crate's private clauses cite it.
+use Rattle.std.specs.Prelude.{◌≡◌, Some, ⊤, codes, option_and_then}
+use Rattle.json_tree.specs.Tree.{Tree}
+use Rattle.filter_tree.specs.Filters.{FilterTree}
+use Rattle.reply_env.specs.declared.request.Place.{Place}
+use Rattle.cmd_grammar.specs.Commands.{CommandTree, insert_one, find_one, count_documents, IsStorable}
+use Rattle.cmd_grammar.specs.Refused.{command_at, member_in}
+use Rattle.cmd_grammar.specs.Asked.{filter_of, document_of}
+use Rattle.cmd_grammar.specs.declared.name.Name.{Name}
+use Rattle.cmd_grammar.specs.declared.name.Name.TheVariants.{InsertOne, FindOne, CountDocuments}
+
+-- what the command of this name has to have in its value
+abbrev pub HasParts : Name → Tree → Type 0
+HasParts InsertOne t = IsStorable (document_of t)
+HasParts FindOne t = ⊤
+HasParts CountDocuments t = ⊤
+
+-- the value at the place is of this command, with this filter
+pub record IsJudged (place : Place) (value : Tree) (name : Name) (filter : FilterTree) : Type 0 where
+  pub inner : Tree
+  pub is_at : command_at place.collection value ≡ Some (name, inner)
+  pub is_filter : filter ≡ filter_of inner
+  pub parts : HasParts name inner
+
+-- the body is of an insertion whose document may be stored
+pub record IsInsertion (body : Tree) : Type 0 where
+  pub inner : Tree
+  pub is_value : member_in (codes "insertOne") body ≡ Some inner
+  pub storable : IsStorable (document_of inner)
+
+abbrev pub IsInsertionOf : Tree → CommandTree → Type 0
+IsInsertionOf body (insert_one t) = option_and_then (member_in (codes "document")) (member_in (codes "insertOne") body) ≡ Some t
+IsInsertionOf body (find_one f) = ⊥
+IsInsertionOf body (count_documents f) = ⊥

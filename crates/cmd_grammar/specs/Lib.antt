@@ -1,0 +1,11 @@
+pub mod Answers
+pub mod Asked
+pub mod Commands
+pub mod Documents
+pub mod Fields
+pub mod First
+pub mod Judged
+pub mod Names
+pub mod Refused
+pub mod Requests
+pub mod Rows

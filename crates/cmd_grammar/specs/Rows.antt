@@ -1,0 +1,49 @@
+-- The table of the commands: which members each may have, and which it has to have.
+use Rattle.std.specs.Prelude.{ℕ, Bool, true, false, ◌&&◌, List, [], ◌∷◌, Option, Some, None, codes, map}
+use Rattle.std.specs.Str.{bytes_eq}
+use Rattle.std.specs.List.{list_any}
+use Rattle.std.specs.Option.{option_map}
+use Rattle.json_tree.specs.Tree.{Tree}
+use Rattle.filter_tree.specs.Faults.{is_object}
+use Rattle.cmd_grammar.specs.declared.name.Name.{Name}
+use Rattle.cmd_grammar.specs.declared.name.Name.TheVariants.{InsertOne, FindOne, CountDocuments}
+use Rattle.cmd_grammar.specs.declared.row.Kind.{Kind}
+use Rattle.cmd_grammar.specs.declared.row.Kind.TheVariants as kinds
+use Rattle.cmd_grammar.specs.declared.row.Field as declared_field
+use Rattle.cmd_grammar.specs.declared.row.Row as declared_row
+
+-- a member that a command may have, the kind of its value, and whether it has to be there
+pub record Field : Type 0 where
+  pub name : List ℕ
+  pub kind : Kind
+  pub required : Bool
+
+-- a command's members, and its options, where it has any
+pub record Row : Type 0 where
+  pub members : List Field
+  pub options : Option (List Field)
+
+abbrev pub field_of : declared_field.Field → Field
+field_of f = record { name = f.name.now; kind = f.kind; required = f.required }
+
+abbrev pub row_of : declared_row.Row → Row
+row_of r = record { members = map field_of r.members.now; options = option_map (λ o. map field_of o.now) r.options }
+
+abbrev pub document : Field
+document = record { name = codes "document"; kind = kinds.Object; required = true }
+
+abbrev pub filter : Field
+filter = record { name = codes "filter"; kind = kinds.Object; required = false }
+
+-- one row for each command
+abbrev pub row : Name → Row
+row InsertOne = record { members = document ∷ []; options = None }
+row FindOne = record { members = filter ∷ []; options = None }
+row CountDocuments = record { members = filter ∷ []; options = None }
+
+abbrev pub has_kind : Kind → Tree → Bool
+has_kind kinds.Object t = is_object t
+
+-- a member of this name and value is one of these fields
+abbrev pub fits : List Field → List ℕ → Tree → Bool
+fits fields name t = list_any (λ f. bytes_eq f.name name && has_kind f.kind t) fields

@@ -1,0 +1,19 @@
+//! Commands: what a request asks for, or the first refusal that the request alone shows.
+#![tactic(auto)]
+
+mod checks;
+mod command;
+mod documents;
+mod fault;
+mod fields;
+mod filters;
+mod name;
+mod reading;
+mod row;
+
+pub use command::Command;
+pub use fault::CommandFault;
+pub use reading::{read_command, read_request, take_command};
+
+#[cfg(test)]
+mod tests;

@@ -1,0 +1,204 @@
+// The reader of commands.
+ghost use Rattle.std.specs.Prelude.{◌≡◌, ⊤, codes, option_map, None, IfOk, IfSome, OnOk};
+ghost use Rattle.json_tree.specs.View.{tree};
+ghost use Rattle.json_tree.specs.Writable.{IsWritable};
+ghost use Rattle.filter_tree.specs.View.{filter_tree};
+ghost use Rattle.cmd_grammar.specs.Refused.{command_at, member_in, fields_refusal, inserted_refusal, command_refusal, refused};
+ghost use Rattle.cmd_grammar.specs.Asked.{filter_of, IsPlaced};
+ghost use Rattle.cmd_grammar.specs.Commands.{command_tree, IsAskable, IsAskableFilter, IsStorable};
+ghost use Rattle.cmd_grammar.specs.Answers.{Passes, Answers};
+ghost use Rattle.cmd_grammar.specs.Requests.{IsReadAs};
+ghost use Rattle.cmd_grammar.specs.Judged.{HasParts, IsJudged, IsInsertion, IsInsertionOf};
+
+use crate::checks::check_place;
+use crate::command::Command;
+use crate::documents::check_document;
+use crate::fault::{CommandFault, refuse};
+use crate::fields::check_fields;
+use crate::filters::read_filter;
+use crate::name::{Name, command_named};
+use crate::row::table_row;
+use filter_tree::Filter;
+use json_text::{TextFault, read_value};
+use json_tree::Value;
+use reply_env::{Place, Request, bad_field, no_command, unread};
+use std::alloc::Global;
+
+// The command and its value, in an object of one member under the path of a collection.
+fn named<'v>(place: &Place, value: &'v Value) -> Option<(Name, &'v Value)>
+    ensures { option_map (λ p. (p.0, tree p.1.now)) result ≡ command_at place.now.collection (tree value.now) }
+{
+    if place.collection.is_none() {
+        return None;
+    }
+    let Value::Object(members) = value else {
+        return None;
+    };
+    if members.len() != 1 {
+        return None;
+    }
+    let Some((name, inner)) = members.pair(0) else {
+        return None;
+    };
+    match command_named(name.as_str()) {
+        Some(name) => Some((name, inner)),
+        None => None,
+    }
+}
+
+// The members of a command's value, by the row of the command.
+fn check_members(alloc: Global, name: Name, command: &Value) -> Result<(), CommandFault>
+    ensures { Passes (fields_refusal (name, tree command.now)) (λ _. ⊤) result }
+{
+    match command {
+        Value::Object(members) => check_fields(alloc, table_row(name), members),
+        _ => Err(refuse(bad_field(alloc, name.text()))),
+    }
+}
+
+// A member of a value.
+fn member<'v>(value: &'v Value, name: &str) -> Option<&'v Value>
+    ensures { option_map (λ v. tree v.now) result ≡ member_in name.now (tree value.now) }
+{
+    match value {
+        Value::Object(members) => members.get(name),
+        _ => None,
+    }
+}
+
+// A member of a value, moved out of it.
+fn take_member(value: Value, name: &str) -> Option<Value>
+    ensures { option_map tree result ≡ member_in name.now (tree value) }
+{
+    match value {
+        Value::Object(members) => {
+            let mut members = members;
+            members.remove(name)
+        }
+        _ => None,
+    }
+}
+
+// The test of the member `document`.
+fn check_inserted(alloc: Global, command: &Value) -> Result<(), CommandFault>
+    ensures { Passes (inserted_refusal (tree command.now)) (λ _. IfSome (member_in (codes "document") (tree command.now)) IsStorable) result }
+{
+    match member(command, "document") {
+        Some(document) => check_document(alloc, document),
+        None => Ok(()),
+    }
+}
+
+// The tests of a command's value; its filter is read by the way.
+fn check_command(alloc: Global, name: Name, command: &Value) -> Result<Filter, CommandFault>
+    ensures answers { Passes (command_refusal (name, tree command.now)) (λ f. (filter_tree f ≡ filter_of (tree command.now)) × HasParts name (tree command.now)) result }
+    ensures filter { IsWritable (tree command.now) → IfOk result (λ f. IsAskableFilter (filter_tree f)) }
+{
+    check_members(alloc, name, command)?;
+    let filter = read_filter(alloc, command)?;
+    check_inserted(alloc, command)?;
+    Ok(filter)
+}
+
+// The tests of a request.
+fn judge(
+    alloc: Global,
+    place: &Place,
+    keyspace: &str,
+    value: &Value,
+) -> Result<(Name, Filter), CommandFault>
+    ensures answers { Passes (refused keyspace.now place.now (tree value.now)) (λ j. IsJudged place.now (tree value.now) j.0 (filter_tree j.1)) result }
+    ensures filter { IsWritable (tree value.now) → IfOk result (λ j. IsAskableFilter (filter_tree j.1)) }
+{
+    let Some((name, command)) = named(place, value) else {
+        return Err(refuse(no_command(alloc)));
+    };
+    check_place(alloc, keyspace, place)?;
+    match check_command(alloc, name, command) {
+        Ok(filter) => Ok((name, filter)),
+        Err(fault) => Err(fault),
+    }
+}
+
+// The insertion that a body asks for, with a copy of the document.
+fn copied_insertion(alloc: Global, body: &Value) -> Result<Command, CommandFault>
+    requires { IsInsertion (tree body.now) }
+    ensures { Passes None (λ c. IsInsertionOf (tree body.now) (command_tree c)) result }
+{
+    let Some(command) = member(body, "insertOne") else {
+        unreachable!()
+    };
+    let Some(document) = member(command, "document") else {
+        unreachable!()
+    };
+    match document.try_copy(alloc) {
+        Ok(document) => Ok(Command::InsertOne { document }),
+        Err(_) => Err(CommandFault::NoMemory),
+    }
+}
+
+// The insertion that a body asks for, with the document moved out of it.
+fn taken_insertion(body: Value) -> Command
+    requires { IsInsertion (tree body) }
+    ensures { IsInsertionOf (tree body) (command_tree result) }
+{
+    let Some(command) = take_member(body, "insertOne") else {
+        unreachable!()
+    };
+    let Some(document) = take_member(command, "document") else {
+        unreachable!()
+    };
+    Command::InsertOne { document }
+}
+
+/// The command that a body asks for at a place, or the first refusal. A document is copied out of the body.
+pub fn read_command(
+    alloc: Global,
+    place: &Place,
+    keyspace: &str,
+    value: &Value,
+) -> Result<Command, CommandFault>
+    ensures answers { Answers keyspace.now place.now (tree value.now) result }
+    ensures ready { IsWritable (tree value.now) → IfOk result (λ c. IsAskable (command_tree c)) }
+    ensures placed { OnOk result (IsPlaced keyspace.now place.now) }
+{
+    let (name, filter) = judge(alloc, place, keyspace, value)?;
+    match name {
+        Name::InsertOne => copied_insertion(alloc, value),
+        Name::FindOne => Ok(Command::FindOne { filter }),
+        Name::CountDocuments => Ok(Command::CountDocuments { filter }),
+    }
+}
+
+/// The same, with a document moved out of the body.
+pub fn take_command(
+    alloc: Global,
+    place: &Place,
+    keyspace: &str,
+    value: Value,
+) -> Result<Command, CommandFault>
+    ensures answers { Answers keyspace.now place.now (tree value) result }
+    ensures ready { IsWritable (tree value) → IfOk result (λ c. IsAskable (command_tree c)) }
+    ensures placed { OnOk result (IsPlaced keyspace.now place.now) }
+{
+    let (name, filter) = judge(alloc, place, keyspace, &value)?;
+    match name {
+        Name::InsertOne => Ok(taken_insertion(value)),
+        Name::FindOne => Ok(Command::FindOne { filter }),
+        Name::CountDocuments => Ok(Command::CountDocuments { filter }),
+    }
+}
+
+/// The command that a request asks for, or the first refusal that the request alone shows: that its body spells no
+/// value comes first.
+pub fn read_request(alloc: Global, keyspace: &str, request: &Request) -> Result<Command, CommandFault>
+    ensures answers { IsReadAs keyspace.now request.now result }
+    ensures ready { IfOk result (λ c. IsAskable (command_tree c)) }
+    ensures placed { OnOk result (IsPlaced keyspace.now request.now.place) }
+{
+    match read_value(alloc, request.body.as_slice()) {
+        Ok(value) => take_command(alloc, &request.place, keyspace, value),
+        Err(TextFault::NoMemory) => Err(CommandFault::NoMemory),
+        Err(fault) => Err(refuse(unread(alloc, fault))),
+    }
+}

@@ -1,0 +1,88 @@
+// The table of the commands: which members each may have, and which it has to have.
+ghost use Rattle.std.specs.Prelude.{◌≡◌, map};
+ghost use Rattle.json_tree.specs.View.{tree};
+ghost use Rattle.cmd_grammar.specs.Rows.{row_of, field_of, row, has_kind, fits};
+
+use crate::name::Name;
+use json_tree::Value;
+
+/// What a member's value has to be.
+#[derive(Clone, Copy)]
+pub(crate) enum Kind {
+    Object,
+}
+
+/// A member that a command may have.
+#[derive(Clone, Copy)]
+pub(crate) struct Field {
+    pub(crate) name: &'static str,
+    pub(crate) kind: Kind,
+    pub(crate) required: bool,
+}
+
+/// A command's members, and its options, where it has any.
+#[derive(Clone, Copy)]
+pub(crate) struct Row {
+    pub(crate) members: &'static [Field],
+    pub(crate) options: Option<&'static [Field]>,
+}
+
+const DOCUMENT: Field = Field {
+    name: "document",
+    kind: Kind::Object,
+    required: true,
+};
+
+const FILTER: Field = Field {
+    name: "filter",
+    kind: Kind::Object,
+    required: false,
+};
+
+const INSERT_ONE: Row = Row {
+    members: &[DOCUMENT],
+    options: None,
+};
+
+const FIND_ONE: Row = Row {
+    members: &[FILTER],
+    options: None,
+};
+
+const COUNT_DOCUMENTS: Row = Row {
+    members: &[FILTER],
+    options: None,
+};
+
+/// The row of a command.
+pub(crate) fn table_row(name: Name) -> Row
+    ensures { row_of result ≡ row name }
+{
+    match name {
+        Name::InsertOne => INSERT_ONE,
+        Name::FindOne => FIND_ONE,
+        Name::CountDocuments => COUNT_DOCUMENTS,
+    }
+}
+
+impl Kind {
+    fn is_of(self, value: &Value) -> bool
+        ensures { result ≡ has_kind self (tree value.now) }
+    {
+        match self {
+            Kind::Object => matches!(value, Value::Object(_)),
+        }
+    }
+}
+
+/// Whether a member of this name and value is one of the fields.
+pub(crate) fn fits(fields: &[Field], name: &str, value: &Value) -> bool
+    ensures { result ≡ fits (map field_of fields.now) name.now (tree value.now) }
+{
+    for field in fields {
+        if field.name == name && field.kind.is_of(value) {
+            return true;
+        }
+    }
+    false
+}

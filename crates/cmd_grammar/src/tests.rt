@@ -1,0 +1,182 @@
+mod rows;
+
+use super::*;
+use json_text::read_value;
+use json_tree::Text;
+use name_tables::Code;
+use reply_env::{ErrorItem, Place, Request, print_reply, refusal};
+use std::alloc::Global;
+use std::test::Fail;
+
+// Bodies of a repeated piece: what stands before it, the piece, how often, what stands behind it, and what they give.
+const LONG_ROWS: [(&str, &str, usize, &str, &str); 11] = [
+    (
+        "",
+        "[",
+        33,
+        "",
+        r#"{"errors":[{"message":"Body is nested too deep at byte 32","errorCode":"INVALID_JSON"}]}"#,
+    ),
+    (
+        r#"{"findOne":{"filter":{"x":{"$in":[0"#,
+        ",1",
+        100,
+        "]}}}}",
+        r#"{"errors":[{"message":"Filter has 101 operands, at most 100","errorCode":"INVALID_FILTER_EXPRESSION"}]}"#,
+    ),
+    (
+        r#"{"countDocuments":{"filter":{"x":{"$nin":[0"#,
+        ",1",
+        101,
+        "]}}}}",
+        r#"{"errors":[{"message":"Filter has 102 operands, at most 100","errorCode":"INVALID_FILTER_EXPRESSION"}]}"#,
+    ),
+    (
+        r#"{"findOne":{"filter":{"x":{"$all":[0"#,
+        ",1",
+        99,
+        "]}}}}",
+        "findOne",
+    ),
+    (
+        r#"{"insertOne":{"document":{"_id":1,"l":[0"#,
+        ",1",
+        1000,
+        "]}}}",
+        r#"{"errors":[{"message":"Document limit 8 is 1000, found 1001","errorCode":"SHRED_DOC_LIMIT_VIOLATION"}]}"#,
+    ),
+    (
+        r#"{"insertOne":{"document":{"_id":1,"l":[0"#,
+        ",1",
+        999,
+        "]}}}",
+        "insertOne",
+    ),
+    (
+        r#"{"insertOne":{"document":{"_id":""#,
+        "x",
+        8001,
+        r#""}}}"#,
+        r#"{"errors":[{"message":"Document limit 9 is 8000, found 8001","errorCode":"SHRED_DOC_LIMIT_VIOLATION"}]}"#,
+    ),
+    (
+        r#"{"insertOne":{"document":{"_id":""#,
+        "x",
+        8000,
+        r#""}}}"#,
+        "insertOne",
+    ),
+    (
+        r#"{"findOne":{"filter":{""#,
+        "p",
+        101,
+        r#"":1}}}"#,
+        r#"{"errors":[{"message":"Filter is invalid at ppppppppppppppppppppppppppppppppppppppppppppppppppppppppppppppppppppppppppppppppppppppppppppppppppppp","errorCode":"INVALID_FILTER_EXPRESSION"}]}"#,
+    ),
+    (
+        r#"{"findOne":{"filter":{"p"#,
+        ".p",
+        499,
+        r#"":1}}}"#,
+        "findOne",
+    ),
+    (
+        r#"{"countDocuments":{"#,
+        " ",
+        1000,
+        "}}",
+        "countDocuments",
+    ),
+];
+
+fn place_of(alloc: Global, path: &str) -> Result<Place, Fail> {
+    match path.split_once('/') {
+        Some((keyspace, collection)) => Ok(Place {
+            keyspace: Text::of_str(alloc, keyspace)?,
+            collection: Some(Text::of_str(alloc, collection)?),
+        }),
+        None => Ok(Place {
+            keyspace: Text::of_str(alloc, path)?,
+            collection: None,
+        }),
+    }
+}
+
+fn request_of(alloc: Global, path: &str, body: &str) -> Result<Request, Fail> {
+    Ok(Request {
+        place: place_of(alloc, path)?,
+        body: body.as_bytes().to_vec(alloc)?,
+    })
+}
+
+fn refused_text(alloc: Global, code: Code, message: Text) -> Result<Vec<u8>, Fail> {
+    let reply = refusal(alloc, ErrorItem { code, message })?;
+    let mut out = Vec::new(alloc);
+    print_reply(alloc, &reply, &mut out)?;
+    Ok(out)
+}
+
+// The name of the command that was read, or the text of the reply that refuses.
+fn text_of(alloc: Global, read: Result<Command, CommandFault>) -> Result<Vec<u8>, Fail> {
+    match read {
+        Ok(Command::InsertOne { .. }) => Ok(b"insertOne".to_vec(alloc)?),
+        Ok(Command::FindOne { .. }) => Ok(b"findOne".to_vec(alloc)?),
+        Ok(Command::CountDocuments { .. }) => Ok(b"countDocuments".to_vec(alloc)?),
+        Err(CommandFault::Refused { code, message }) => refused_text(alloc, code, message),
+        Err(CommandFault::NoMemory) => Ok(b"no memory".to_vec(alloc)?),
+    }
+}
+
+fn answer(alloc: Global, path: &str, body: &str) -> Result<Vec<u8>, Fail> {
+    let request = request_of(alloc, path, body)?;
+    text_of(alloc, read_request(alloc, "ks", &request))
+}
+
+fn repeated(
+    alloc: Global,
+    before: &str,
+    piece: &str,
+    count: usize,
+    behind: &str,
+) -> Result<String, Fail> {
+    let mut body = String::from_str(alloc, before)?;
+    for _ in 0..count {
+        body.push_str(piece)?;
+    }
+    body.push_str(behind)?;
+    Ok(body)
+}
+
+#[test]
+fn requests_are_read_or_refused(rt: HostRuntime) -> Result<(), Fail> {
+    let alloc = rt.alloc();
+    for (path, body, text) in rows::ROWS.iter() {
+        let given = answer(alloc, path, body)?;
+        assert!(rt; given.as_slice() == text.as_bytes(), "{path} {body}");
+    }
+    Ok(())
+}
+
+#[test]
+fn long_requests_are_read_or_refused(rt: HostRuntime) -> Result<(), Fail> {
+    let alloc = rt.alloc();
+    for (before, piece, count, behind, text) in LONG_ROWS.iter() {
+        let body = repeated(alloc, before, piece, *count, behind)?;
+        let given = answer(alloc, "ks/c", body.as_str())?;
+        assert!(rt; given.as_slice() == text.as_bytes(), "{text}");
+    }
+    Ok(())
+}
+
+// A body that is lent is read as one that is handed over, and stays.
+#[test]
+fn lent_values_stay(rt: HostRuntime) -> Result<(), Fail> {
+    let alloc = rt.alloc();
+    let place = place_of(alloc, "ks/c")?;
+    let value = read_value(alloc, br#"{"insertOne":{"document":{"_id":"a"}}}"#)?;
+    let first = text_of(alloc, read_command(alloc, &place, "ks", &value))?;
+    let second = text_of(alloc, take_command(alloc, &place, "ks", value))?;
+    assert!(rt; first.as_slice() == b"insertOne".as_slice());
+    assert!(rt; second.as_slice() == b"insertOne".as_slice());
+    Ok(())
+}
