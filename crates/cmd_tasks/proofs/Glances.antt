@@ -19,7 +19,8 @@ use Rattle.store_core.specs.State.{State}
 use Rattle.store_core.specs.Journal.{replay}
 use Rattle.store_core.specs.Outcomes.{ShowsPage}
 use Rattle.store_core.specs.declared.entry.Entry.{Entry}
-use Rattle.store_core.specs.declared.entry.Entry.TheVariants.{Failed}
+use Rattle.store_core.specs.declared.entry.Entry.TheVariants.{Changed, Failed}
+use Rattle.store_core.specs.declared.entry.Change.{Change}
 use Rattle.cmd_tasks.specs.Rank.{rank_of, IsKeyed}
 use Rattle.cmd_tasks.specs.Trace.{sight, rows_now, found_in, probed_in, probe_of}
 use Rattle.cmd_tasks.specs.Served.{Stops}
@@ -54,6 +55,26 @@ failed_here k low high H H' at before count longer here rose low_is high_is = re
   more = Failed k before count ∷ [];
   longer = longer;
   records = record { here = here; stands = omega (arith, here); own = ap (λ (b : Bool). cond b (length H ∷ []) []) (eq-eqb k k refl) ∙ ap (λ (n : ℕ). n ∷ []) (sym here) };
+}
+
+pub wrote_here : (k low high : ℕ) (H H' : List Entry) (at tx : ℕ) (coll : Name) (id : Tree) (change : Change) (before : Option ℕ) → H' ≡ H ++ Changed k coll id change before tx ∷ [] → at ≡ length H → Made k low high H H' (Wrote at)
+wrote_here k low high H H' at tx coll id change before longer here = record {
+  risen = tt;
+  alone = (refl, tt);
+  counted = tt;
+  more = Changed k coll id change before tx ∷ [];
+  longer = longer;
+  records = record { here = here; stands = omega (arith, here); own = ap (λ (b : Bool). cond b (length H ∷ []) []) (eq-eqb k k refl) ∙ ap (λ (n : ℕ). n ∷ []) (sym here) };
+}
+
+pub lost_here : (k low high : ℕ) (H H' : List Entry) (at : ℕ) (found : Option ℕ) → H' ≡ H → at ≡ length H → Made k low high H H' (Lost at 0 found)
+lost_here k low high H H' at found same here = record {
+  more = [];
+  longer = same ∙ sym (append-nil H);
+  records = record { here = here; stands = omega (arith, here); own = refl };
+  risen = tt;
+  alone = tt;
+  counted = tt;
 }
 
 at_end : {A : Type 0} (xs : List A) (a : A) → slice_get (xs ++ a ∷ []) (length xs) ≡ Some a

@@ -1,5 +1,5 @@
 -- How each command goes on, or is answered.
-use Rattle.std.proofs.Common.{◌≡◌, ℕ, ◌+◌, ◌<◌, ◌≤◌, List, [], ◌∷◌, ◌++◌, map, take, length, true, false, ◌-◌, ◌^◌, Option, Some, None, refl, sym, ap, ◌∙◌, subst, arith, inl, inr, length-append, Vec, Global, leb, ◌⊎◌, ⊎_elim}
+use Rattle.std.proofs.Common.{◌≡◌, ◌≢◌, ℕ, ◌+◌, ◌<◌, ◌≤◌, List, [], ◌∷◌, ◌++◌, map, take, length, true, false, ◌-◌, ◌^◌, Option, Some, None, refl, sym, ap, ◌∙◌, subst, arith, inl, inr, length-append, Vec, Global, leb, ◌⊎◌, ⊎_elim}
 use Rattle.std.specs.Prelude.{nat_le, if◌then◌else◌, IfSome}
 use Rattle.std.specs.Option.{option_map}
 use Rattle.std.proofs.lemmas.List.{length-map}
@@ -28,15 +28,16 @@ use Rattle.cmd_tasks.specs.Trace.{Sight, sight, shown, shown_by, IsLook, GoesOn,
 use Rattle.cmd_tasks.specs.Served.{IsPartOf, Serves, Stops, IsStopped, Marks, IsToWrite, IsInserted, IsTaken, TellsInserted, TellsFound, counted, accepted, one_if_wrote}
 use Rattle.cmd_tasks.specs.Pages.{found_row}
 use Rattle.cmd_tasks.specs.Wanted.{IsWanted}
-use Rattle.cmd_tasks.specs.Moves.{GoesUp, Glances, Steps, Sees, StopsSo, Leads, IsBegun, IsUnderWay, Selects, EndsSo, Finds, Refuses, count_to, IsLooked}
+use Rattle.cmd_tasks.specs.Moves.{Made, GoesUp, Glances, Steps, Sees, StopsSo, Leads, IsBegun, IsUnderWay, Selects, EndsSo, Finds, Refuses, count_to, IsLooked}
 use Rattle.cmd_tasks.specs.declared.trace.Item.{Item}
 use Rattle.cmd_tasks.specs.declared.trace.Item.TheVariants.{Looked, Wrote, Lost, Faulted}
 use Rattle.cmd_tasks.specs.declared.work.Wanted.{Wanted}
+use Rattle.cmd_tasks.specs.declared.work.State.{State}
 use Rattle.cmd_tasks.specs.declared.work.State.TheVariants.{Inserting, Selecting, Counting}
 use Rattle.cmd_tasks.specs.declared.work.Moved.{Moved}
 use Rattle.cmd_tasks.specs.declared.work.Moved.TheVariants as m
 use Rattle.cmd_tasks.specs.declared.work.Glance.TheVariants as g
-use Rattle.cmd_tasks.proofs.Glances.{saw, saw_before, saw_entry}
+use Rattle.cmd_tasks.proofs.Glances.{saw, saw_before, saw_entry, lost_here}
 
 -- ---- what a step is, told or not
 
@@ -64,6 +65,16 @@ count_steps k low high H H' w last n n' item page (Some u) wanted h =
       | true ↦ λ e. h.0
       | false ↦ λ e. (h.0, refl, (wanted, few n' e (leb_tells 1001 n')), h.1)
     ] refl
+
+pub taken_steps : (k low high : ℕ) (H H' : List Entry) (w : State) (at tx : ℕ) (P : Reply → Type 0) (o : Moved) → H' ≡ H → at ≡ length H → EndsSo (Lost at 0 (Some tx)) P o → Steps k low high w H H' o
+taken_steps k low high H H' w at tx P (m.Goes i s) same here is = absurd is
+taken_steps k low high H H' w at tx P (m.Ends i r) same here is = subst (Made k low high H H') (sym is.0) (lost_here k low high H H' at (Some tx) same here)
+taken_steps k low high H H' w at tx P m.NoMemory same here is = absurd is
+
+-- no number was read, and so one was found
+pub found_one : (found : Option ℕ) → found ≢ None → (tx : ℕ) × (found ≡ Some tx)
+found_one None n = absurd (n refl)
+found_one (Some tx) n = (tx, refl)
 
 -- ---- what it means for the request, where told
 

@@ -87,6 +87,7 @@ fn insert_doc<K: Keeper>(
     ensures lawful { IsLawful store.new }
 {
     limits_bound_ids();
+    store.journal_len();
     let Ids { key, twin, reply } = ids;
     match store.write(alloc, by, coll, &key, None, Change::Insert { doc }) {
         WriteOutcome::Written { at, tx: _ } => Moved::Ends {
