@@ -1,5 +1,5 @@
 // What may be wrong with a document that is to be inserted.
-ghost use Rattle.std.specs.Prelude.{◌≡◌, ⊤, None, Some, option_map, false};
+ghost use Rattle.std.specs.Prelude.{◌≡◌, ⊤, None, Some, ◌∷◌, [], false};
 ghost use Rattle.json_tree.specs.View.{tree};
 ghost use Rattle.json_tree.specs.Doc.{id_in, has_dollar_name};
 ghost use Rattle.doc_limits.specs.Names.{first_bad_name};

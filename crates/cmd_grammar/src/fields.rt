@@ -1,5 +1,5 @@
 // What may be wrong with the members of a command.
-ghost use Rattle.std.specs.Prelude.{◌≡◌, ⊤, map, option_map};
+ghost use Rattle.std.specs.Prelude.{◌≡◌, ⊤, map};
 ghost use Rattle.json_tree.specs.View.{tree};
 ghost use Rattle.cmd_grammar.specs.Rows.{field_of, row_of};
 ghost use Rattle.cmd_grammar.specs.First.{first_by};
@@ -38,13 +38,16 @@ fn check_each_option(
         let Some((name, value)) = options.pair(i) else {
             unreachable!()
         };
-        check_option(alloc, fields, name.as_str(), value)?;
+        match check_option(alloc, fields, name.as_str(), value) {
+            Ok(()) => {}
+            Err(fault) => return Err(fault),
+        }
     }
     Ok(())
 }
 
 fn check_options(alloc: Global, row: Row, value: &Value) -> Result<(), CommandFault>
-    ensures { Passes (options_refusal ((row_of row.entry).options) (tree value.now)) (λ _. ⊤) result }
+    ensures { Passes (options_refusal ((row_of row).options) (tree value.now)) (λ _. ⊤) result }
 {
     match (row.options, value) {
         (Some(fields), Value::Object(options)) => check_each_option(alloc, fields, options),
@@ -53,7 +56,7 @@ fn check_options(alloc: Global, row: Row, value: &Value) -> Result<(), CommandFa
 }
 
 fn check_member(alloc: Global, row: Row, name: &str, value: &Value) -> Result<(), CommandFault>
-    ensures { Passes (member_refusal (row_of row.entry) (name.now, tree value.now)) (λ _. ⊤) result }
+    ensures { Passes (member_refusal (row_of row) (name.now, tree value.now)) (λ _. ⊤) result }
 {
     if name == "options" {
         return check_options(alloc, row, value);
@@ -66,13 +69,16 @@ fn check_member(alloc: Global, row: Row, name: &str, value: &Value) -> Result<()
 }
 
 fn check_each(alloc: Global, row: Row, members: &Members) -> Result<(), CommandFault>
-    ensures { Passes (first_by (member_refusal (row_of row.entry)) members.now) (λ _. ⊤) result }
+    ensures { Passes (first_by (member_refusal (row_of row)) members.now) (λ _. ⊤) result }
 {
     for i in 0..members.len() {
         let Some((name, value)) = members.pair(i) else {
             unreachable!()
         };
-        check_member(alloc, row, name.as_str(), value)?;
+        match check_member(alloc, row, name.as_str(), value) {
+            Ok(()) => {}
+            Err(fault) => return Err(fault),
+        }
     }
     Ok(())
 }
@@ -90,7 +96,7 @@ fn check_required(alloc: Global, fields: &[Field], members: &Members) -> Result<
 
 /// The members of a command, by its row.
 pub(crate) fn check_fields(alloc: Global, row: Row, members: &Members) -> Result<(), CommandFault>
-    ensures { Passes (members_refusal (row_of row.entry) members.now) (λ _. ⊤) result }
+    ensures { Passes (members_refusal (row_of row) members.now) (λ _. ⊤) result }
 {
     check_each(alloc, row, members)?;
     check_required(alloc, row.members, members)

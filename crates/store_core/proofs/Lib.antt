@@ -1,0 +1,4 @@
+pub mod Histories
+pub mod Growths
+pub mod Bases
+pub mod Openings

@@ -1,8 +1,8 @@
 //! The store: a keeper, and the journal of what was done with it.
 #![tactic(auto)]
 
+mod enter;
 mod entry;
-mod faults;
 mod keep;
 mod open;
 mod outcome;
@@ -15,3 +15,6 @@ pub use entry::{Change, Entry};
 pub use open::OpenFault;
 pub use outcome::{Listed, Looked, NoMemory, Paged, Shaped, WriteOutcome};
 pub use store::Store;
+
+#[cfg(test)]
+mod tests;

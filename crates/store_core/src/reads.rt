@@ -6,7 +6,7 @@ ghost use Rattle.store_core.specs.Store.{IsLawful, SameBase};
 ghost use Rattle.store_core.specs.Outcomes.{Looks, Pages, Lists};
 ghost use Rattle.store_core.specs.Growth.{Grows};
 
-use crate::faults::enter_fault;
+use crate::enter::enter_fault;
 use crate::outcome::{Listed, Looked, Paged};
 use crate::store::Store;
 use col_keeper::{KeepFault, Keeper, Listing, Walked};

@@ -5,10 +5,10 @@ ghost use Rattle.store_core.specs.Store.{IsLawful, SameBase};
 ghost use Rattle.store_core.specs.Outcomes.{Creates, Drops};
 ghost use Rattle.store_core.specs.Growth.{Grows};
 
+use crate::enter::{enter, enter_fault};
 use crate::entry::Entry;
-use crate::faults::enter_fault;
 use crate::outcome::Shaped;
-use crate::store::{ENTRY, Store};
+use crate::store::Store;
 use col_keeper::{Dropped, Keeper, Made};
 use doc_paths::CollName;
 use std::alloc::Global;
@@ -49,9 +49,8 @@ impl<K: Keeper> Store<K> {
         let before = self.keeper.faults();
         match self.keeper.create(alloc, coll, MOST) {
             Made::Done => {
-                self.journal
-                    .push_reserved(Entry::Created { by, coll: name });
-                self.size = self.size.saturating_add(ENTRY);
+                let entry = Entry::Created { by, coll: name };
+                enter(&mut self.journal, &mut self.size, entry, 0);
                 Shaped::Done { at }
             }
             Made::There => Shaped::Same { at },
@@ -97,9 +96,8 @@ impl<K: Keeper> Store<K> {
         let before = self.keeper.faults();
         match self.keeper.drop_coll(alloc, coll) {
             Dropped::Done => {
-                self.journal
-                    .push_reserved(Entry::Dropped { by, coll: name });
-                self.size = self.size.saturating_add(ENTRY);
+                let entry = Entry::Dropped { by, coll: name };
+                enter(&mut self.journal, &mut self.size, entry, 0);
                 Shaped::Done { at }
             }
             Dropped::Absent => Shaped::Same { at },

@@ -8,6 +8,7 @@ ghost use Rattle.store_core.specs.Counts.{opened_in, writes_in, size_in};
 ghost use Rattle.store_core.specs.Store.{IsKept, IsLawful, SameBase, AtState, next_of, told_start};
 ghost use Rattle.store_core.specs.declared.entry.Entry.TheVariants.{Opened};
 
+use crate::enter::enter;
 use crate::entry::Entry;
 use crate::outcome::NoMemory;
 use col_keeper::Keeper;
@@ -144,13 +145,14 @@ impl<K: Keeper> Store<K> {
             return Err(NoMemory);
         }
         let session = self.sessions;
-        self.journal.push_reserved(Entry::Opened { session });
+        enter(
+            &mut self.journal,
+            &mut self.size,
+            Entry::Opened { session },
+            0,
+        );
         let _len = self.journal.len();
         self.sessions = session + 1;
-        self.size = self.size.saturating_add(ENTRY);
         Ok(session)
     }
 }
-
-/// What an entry adds to the size of the journal, beside its document.
-pub(crate) const ENTRY: u64 = 64;

@@ -10,10 +10,11 @@ ghost use Rattle.store_core.specs.Outcomes.{Writes};
 ghost use Rattle.store_core.specs.Growth.{Grows};
 ghost use Rattle.store_core.specs.declared.outcome.WriteOutcome.TheVariants.{VersionsSpent};
 
+use crate::enter::{enter, enter_fault};
 use crate::entry::{Change, Entry};
 use crate::keep::{Tried, keep};
 use crate::outcome::WriteOutcome;
-use crate::store::{ENTRY, Store};
+use crate::store::Store;
 use col_keeper::Keeper;
 use doc_paths::CollName;
 use json_text::text_len;
@@ -109,25 +110,23 @@ impl<K: Keeper> Store<K> {
         let before = self.keeper.faults();
         match keep(&mut self.keeper, alloc, coll, id, read, &change, tx) {
             Tried::Done => {
-                let size = text_size_of(&change);
-                self.journal.push_reserved(Entry::Changed {
+                let text = text_size_of(&change);
+                let entry = Entry::Changed {
                     by,
                     coll: name,
                     id: key,
                     change,
                     before: read,
                     after: tx,
-                });
+                };
+                enter(&mut self.journal, &mut self.size, entry, text);
                 self.writes += 1;
-                self.size = self.size.saturating_add(ENTRY).saturating_add(size);
                 WriteOutcome::Written { at, tx }
             }
             Tried::Failed => {
                 let_go(name, key, change);
                 let after = self.keeper.faults();
-                self.journal
-                    .push_reserved(Entry::Failed { by, before, after });
-                self.size = self.size.saturating_add(ENTRY);
+                enter_fault(&mut self.journal, &mut self.size, Some(by), before, after);
                 WriteOutcome::Fault { at, before, after }
             }
             Tried::Differs { found } => {

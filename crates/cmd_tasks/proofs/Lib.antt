@@ -1,0 +1,9 @@
+mod Extension
+mod Sessions
+mod Schedules
+mod Listing
+mod Ranks
+mod Lasts
+mod Glances
+mod Requests
+mod Standing
