@@ -103,6 +103,14 @@ count_failed count (Dropped x y ∷ es) b c d = count_failed count es b c d
 count_failed count (Changed x y i z f t ∷ es) b c d = count_failed count es b c d
 count_failed count (Failed x y z ∷ es) b c d = count_failed z es b c d
 
+pub opened_le : (es : List Entry) → opened_in es ≤ length es
+opened_le [] = omega arith
+opened_le (Opened k ∷ es) = let h = opened_le es in omega arith
+opened_le (Created b c ∷ es) = let h = opened_le es in omega arith
+opened_le (Dropped b c ∷ es) = let h = opened_le es in omega arith
+opened_le (Changed b c i x f t ∷ es) = let h = opened_le es in omega arith
+opened_le (Failed b c d ∷ es) = let h = opened_le es in omega arith
+
 -- ---- what the state after a journal has
 
 sessions_are : (s : State) (es : List Entry) → (replay s es).sessions ≡ s.sessions + opened_in es

@@ -1,4 +1,6 @@
 pub mod Histories
 pub mod Growths
 pub mod Bases
+pub mod Looking
 pub mod Openings
+pub mod Extension

@@ -4,6 +4,7 @@
 mod enter;
 mod entry;
 mod keep;
+mod laws;
 mod open;
 mod outcome;
 mod reads;
@@ -12,9 +13,7 @@ mod store;
 mod writes;
 
 pub use entry::{Change, Entry};
+pub use laws::points_stay;
 pub use open::OpenFault;
 pub use outcome::{Listed, Looked, NoMemory, Paged, Shaped, WriteOutcome};
 pub use store::Store;
-
-#[cfg(test)]
-mod tests;

@@ -1,5 +1,0 @@
-use Rattle.store_core.proofs.Growths.{look_grows}
-use Rattle.store_core.proofs.reads.Store.look.Goals as goal
-
-pub returns-clause-grows : goal.returns-clause-grows
-returns-clause-grows g c = look_grows g.K.Keeper.failed _ _ _ _ _ _ c.look_once.ensures.answers

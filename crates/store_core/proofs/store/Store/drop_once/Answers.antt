@@ -1,0 +1,28 @@
+use Rattle.std.proofs.Common.{◌≡◌, ◌<◌, ◌^◌, ◌+◌, ◌∙◌, ◌++◌, ◌∷◌, [], refl, sym, ap, subst, List, Some, arith, rules}
+use Rattle.std.specs.Prelude.{IfSome, Err}
+use Rattle.col_keeper.specs.declared.answer.KeepFault.{KeepFault}
+use Rattle.store_core.specs.Counts.{opened_in, writes_in}
+use Rattle.store_core.specs.Store.{Stored, next_of}
+use Rattle.store_core.specs.Outcomes.{fault_of}
+use Rattle.store_core.specs.declared.entry.Entry.{Entry}
+use Rattle.store_core.specs.declared.entry.Entry.TheVariants.{Dropped as Entered}
+use Rattle.store_core.proofs.Histories.{drops_so, fails_or_stays}
+use Rattle.store_core.proofs.store.Store.drop_once.Goals as goal
+
+pub invariant_of-self-in-Done : goal.invariant_of-self-in-Done
+invariant_of-self-in-Done g c =
+    let known : c.args.by < opened_in c.self.inside.journal.items = subst (λ (s : Stored g.row.K.Denot). c.args.by < opened_in s.journal) (sym c.self.view_is) c.requires.known in
+    let journal : c.enter.new.journal.items ≡ c.self.inside.journal.items ++ Entered c.args.by c.args.coll.now ∷ [] =
+    c.enter.ensures.entered ∙ ap (λ (l : List Entry). l ++ Entered c.args.by c.in-Ok.name ∷ []) c.reserve.ensures.items
+    ∙ (λ i. c.self.inside.journal.items ++ Entered c.args.by (c.in-Ok.ensures.ok i) ∷ []) in
+    drops_so _ _ _ _ _ _ c.self.invariant.0 _ _ _ c.self.invariant.1 _ _ _ c.args.by c.args.coll.now _ known (c.in-Done.ensures.done refl) c.in-Done.ensures.answers c.drop_coll.ensures.grows journal c.enter.ensures.size
+
+pub invariant_of-self-in-Failed-1 : goal.invariant_of-self-in-Failed-1
+invariant_of-self-in-Failed-1 g c =
+    let known : c.args.by < opened_in c.self.inside.journal.items = subst (λ (s : Stored g.row.K.Denot). c.args.by < opened_in s.journal) (sym c.self.view_is) c.requires.known in
+    let journal : c.enter_fault.new.journal.items ≡ c.self.inside.journal.items ++ fault_of (Some c.args.by) c.faults-before.result c.faults-after.result =
+    c.enter_fault.ensures.entered ∙ ap (λ (l : List Entry). l ++ fault_of (Some c.args.by) c.faults-before.result c.faults-after.result) c.reserve.ensures.items in
+    let before : c.faults-before.result < 2 ^ 64 = search rules in
+    let after : c.faults-after.result < 2 ^ 64 = search rules in
+    fails_or_stays _ _ _ _ _ _ c.self.invariant.0 _ _ _ c.self.invariant.1 _ _ _ (Some c.args.by) c.faults-before.result c.faults-after.result _
+    known c.faults-before.ensures.count c.faults-after.ensures.count (rw (c.faults-before.ensures.count, c.faults-after.ensures.count) (c.in-Failed.ensures.failed refl)) before after (c.in-Failed.ensures.kept (λ e. cc)) c.drop_coll.ensures.grows journal c.enter_fault.ensures.size
