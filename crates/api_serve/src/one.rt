@@ -16,7 +16,7 @@ ghost use Rattle.api_serve.specs.One.{Answers, Performs, IsUnserved, IsRefusedAs
 
 use crate::request::{is_skipped, request_of};
 use cmd_grammar::{Command, CommandFault, read_request};
-use cmd_tasks::{Task, Trace, a_request_begins, serve};
+use cmd_tasks::{Served, Task, Trace, a_request_begins, serve};
 use col_keeper::Keeper;
 use outside_io::{Clock, NoMemory};
 use doc_paths::CollName;
@@ -95,7 +95,7 @@ fn perform<K: Keeper>(
     ensures lawful { IsLawful store.new }
 {
     let task = Task::new(alloc, session, coll, moment, command);
-    let (reply, trace) = serve(alloc, store, task).into_served();
+    let Served { reply, trace } = serve(alloc, store, task).into_served();
     Answered { reply, trace }
 }
 

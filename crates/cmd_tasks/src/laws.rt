@@ -6,8 +6,9 @@ ghost use Rattle.reply_env.specs.declared.reply.Reply.{Reply as Answer};
 ghost use Rattle.reply_env.specs.declared.reply.Reply.TheVariants.{NoMemory};
 ghost use Rattle.store_core.specs.State.{State as Base};
 ghost use Rattle.store_core.specs.Journal.{IsJournal};
-ghost use Rattle.store_core.specs.Counts.{AllBy};
+ghost use Rattle.store_core.specs.Counts.{AllBy, opened_in};
 ghost use Rattle.store_core.specs.declared.entry.Entry.{Entry as Journaled};
+ghost use Rattle.store_core.specs.declared.entry.Entry.TheVariants.{Opened};
 ghost use Rattle.cmd_grammar.specs.Commands.{CommandTree, command_tree};
 ghost use Rattle.cmd_tasks.specs.Served.{IsServed};
 ghost use Rattle.cmd_tasks.specs.Session.{Exchange, IsSession, IsAnswered, AreSessions, AreWithin, NoWork, Records};
@@ -60,4 +61,9 @@ pub fn one_session_steps()
     ensures { (base : Base) (history more : List Journaled) (k i : ℕ) (all : List (List Exchange)) (exchanges : List Exchange) →
         IsJournal base (history ++ more) → AllBy (k + i) more → IsSession base (history ++ more) (k + i) exchanges → AreSessions base history k all
         → AreSessions base (history ++ more) k (slice_set all i exchanges) }
+{}
+
+/// A session that was just opened has made no exchange.
+pub fn a_session_opens()
+    ensures { (base : Base) (history : List Journaled) (k : ℕ) → base.sessions ≡ 0 → k ≡ opened_in history → IsJournal base (history ++ Opened k ∷ []) → IsSession base (history ++ Opened k ∷ []) k [] }
 {}

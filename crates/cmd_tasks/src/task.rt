@@ -1,5 +1,5 @@
 // A task.
-ghost use Rattle.std.specs.Prelude.{◌≡◌, ℕ, ◌+◌, ◌<◌, ◌≤◌, List, Option, Some, None, true, []};
+ghost use Rattle.std.specs.Prelude.{◌≡◌, ⊤, ℕ, ◌+◌, ◌<◌, ◌≤◌, List, Option, Some, None, true, []};
 ghost use Rattle.std.specs.Option.{ForSome};
 ghost use Rattle.store_core.specs.Counts.{opened_in};
 ghost use Rattle.store_core.specs.State.{State as Base};
@@ -144,6 +144,36 @@ impl Task {
                 Next::Done
             }
             Moved::NoMemory => Next::Done,
+        }
+    }
+}
+
+/// A request that was served: its reply, and its trace.
+#[derive(Drop)]
+pub struct Served {
+    pub reply: Reply,
+    pub trace: Trace,
+}
+
+impl Task {
+    /// The reply and the trace of a task that is done.
+    pub fn into_served(self) -> Served
+        requires { IfDone self.state (λ reply. ⊤) }
+        ensures reply { IfDone self.state (λ reply. result.reply ≡ reply) }
+        ensures trace { result.trace ≡ self.trace }
+    {
+        let Task {
+            session: _,
+            coll: _,
+            command: _,
+            trace,
+            state,
+        } = self;
+        match state {
+            State::Done { reply } => Served { reply, trace },
+            State::Inserting { .. } | State::Selecting { .. } | State::Counting { .. } => {
+                unreachable!()
+            }
         }
     }
 }

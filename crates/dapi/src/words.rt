@@ -39,7 +39,7 @@ struct Choices {
 const MOST_COLLECTIONS: usize = 100;
 
 // The option that a word is.
-fn chosen(word: &str) -> Option<Chosen<'_>>
+fn option_in(word: &str) -> Option<Chosen<'_>>
     ensures { MatchOption result ((choice : Choice) → word.now ≡ word_of choice → ⊥) (λ chosen. word.now ≡ word_of (choice_of chosen)) }
 {
     if let Some(name) = word.strip_prefix("--keyspace=") {
@@ -65,7 +65,7 @@ fn name_of(alloc: Global, name: &str) -> Result<CollName, WordFault>
 
 // Takes one more option.
 fn choose(alloc: Global, word: &str, choices: &mut Choices) -> Result<(), WordFault> {
-    match chosen(word) {
+    match option_in(word) {
         None => Err(WordFault::Usage),
         Some(Chosen::Keyspace(name)) => {
             let name = name_of(alloc, name)?;
