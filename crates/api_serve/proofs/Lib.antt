@@ -6,3 +6,4 @@ pub mod Waits
 pub mod Sent
 pub mod HasLines
 pub mod Whole
+pub mod Opened

@@ -1,5 +1,5 @@
 -- The bytes that wait, served line by line.
-use Rattle.std.proofs.Common.{◌≡◌, ◌≤◌, ◌+◌, ◌++◌, ◌∷◌, [], ℕ, List, IsTrue, length, take, drop, refl, sym, ◌∙◌, ap, subst, append_assoc, arith, length-append, inl, inr}
+use Rattle.std.proofs.Common.{◌≡◌, ◌≤◌, ◌+◌, ◌++◌, ◌∷◌, [], ℕ, List, Option, IsTrue, length, take, drop, refl, sym, ◌∙◌, ap, subst, append_assoc, arith, length-append, inl, inr}
 use Rattle.std.proofs.lemmas.List.{append-nil}
 use lib.Seq.{take-append_seam}
 use Rattle.std.specs.List.{list_all}
@@ -9,6 +9,9 @@ use Rattle.api_serve.specs.Lines.{ended_lines, Splits, BeginsWith, IsLineLen, la
 use Rattle.api_serve.specs.Request.{IsRightLine, IsHopeless}
 use Rattle.api_serve.specs.Run.{Serves}
 use Rattle.api_serve.specs.One.{CutShort}
+use Rattle.api_serve.specs.Shown.{service_of}
+use Rattle.store_core.specs.State.{State}
+use Rattle.store_core.specs.Store.{Stored, SameBase}
 use Rattle.api_serve.specs.Piece.{TakesLines, TakesFirst, FindsWrong, BeginsWrong, TakesLast, IsShortLast}
 use Rattle.api_serve.specs.declared.run.Run.{Run}
 use Rattle.api_serve.proofs.Cuts.{take_all}
@@ -150,3 +153,19 @@ last_short service stage old later new some (inr served) out = record {
 pub length_none : (xs : List ℕ) → length xs ≡ 0 → xs ≡ []
 length_none [] e = refl
 length_none (x ∷ xs) e = absurd (omega arith)
+
+-- a line that was served is the front of the bytes that waited
+pub served_front : (keyspace : List ℕ) (start now : Option State) (number : ℕ) (stage : Serving) (waiting same line : List ℕ) (len : ℕ) (output : List ℕ) (later : Serving) → now ≡ start → same ≡ waiting → line ≡ take len same
+    → Serves (service_of keyspace now number) stage (line ∷ []) output later → Serves (service_of keyspace start number) stage (take len waiting ∷ []) output later
+served_front keyspace start now number stage waiting same line len output later told is front served =
+    subst (λ (s : Option State). Serves (service_of keyspace s number) stage (take len waiting ∷ []) output later) told
+    (subst (λ (xs : List ℕ). Serves (service_of keyspace now number) stage (xs ∷ []) output later) (front ∙ ap (take len) is) served)
+
+pub short_front : (keyspace : List ℕ) (start now : Option State) (number : ℕ) (stage : Serving) (waiting same line : List ℕ) (len : ℕ) (later : Serving) → now ≡ start → same ≡ waiting → line ≡ take len same
+    → CutShort (service_of keyspace now number) line stage later → CutShort (service_of keyspace start number) (take len waiting) stage later
+short_front keyspace start now number stage waiting same line len later told is front (inl kept) = inl kept
+short_front keyspace start now number stage waiting same line len later told is front (inr served) = inr (served.0, served_front keyspace start now number stage waiting same line len served.0 later told is front served.1)
+
+-- two calls in turn leave the base
+pub same_base : {K : Type 0} (a b c : Stored K) → SameBase a b → SameBase b c → SameBase a c
+same_base a b c p q = (q.0 ∙ p.0, q.1 ∙ p.1, q.2 ∙ p.2)

@@ -7,3 +7,4 @@ mod Lasts
 mod Glances
 mod Requests
 mod Standing
+mod Running

@@ -1,14 +1,12 @@
 // One request, from its first step to its last.
-ghost use Rattle.std.specs.Prelude.{◌≡◌, ◌<◌, ◌≤◌, ⊤, ℕ, List, Some, [], ◌∷◌, ◌++◌};
+ghost use Rattle.std.specs.Prelude.{◌≡◌, ◌<◌, ◌≤◌, List, [], ◌∷◌, ◌++◌};
 ghost use Rattle.std.specs.Option.{ForSome};
 ghost use Rattle.store_core.specs.Counts.{opened_in, AllBy};
 ghost use Rattle.store_core.specs.Store.{IsLawful, SameBase};
 ghost use Rattle.store_core.specs.declared.entry.Entry.{Entry as Journaled};
-ghost use Rattle.cmd_tasks.specs.Moves.{left};
 ghost use Rattle.cmd_tasks.specs.Session.{Exchange, IsSession, AreCounted};
 ghost use Rattle.cmd_tasks.specs.Stands.{StandsOn, IsSame, IfDone, exchange};
 
-use crate::laws::{a_request_begins, a_request_ends, a_step_is_made, a_task_may_be_cut_off};
 use crate::task::{Next, Task};
 use col_keeper::Keeper;
 use std::alloc::Global;
@@ -29,10 +27,6 @@ pub fn serve<K: Keeper>(alloc: Global, store: &mut Store<K>, task: Task) -> Task
 {
     let mut task = task;
     store.journal_len();
-    a_request_begins();
-    a_step_is_made();
-    a_request_ends();
-    a_task_may_be_cut_off();
     'steps: loop {
         match task.step(alloc, store) {
             Next::More => {}
