@@ -5,9 +5,16 @@ use Rattle.std.specs.Option.{option_map, ForSome}
 use Rattle.std.specs.List.{flat_map}
 use Rattle.reply_env.specs.Reply.{reply_text}
 use Rattle.reply_env.specs.declared.request.Request.{Request}
-use Rattle.cmd_tasks.specs.Session.{Exchange, IsSession, AreCounted}
+use Rattle.cmd_tasks.specs.Session.{Exchange, IsSession, AreCounted, Asking, asks_for}
 use Rattle.store_core.specs.Counts.{AllBy}
 use Rattle.api_serve.specs.Grown.{Grown}
+use Rattle.api_serve.specs.Answered.{IsAskedBy}
+use Rattle.api_serve.specs.One.{Answers, Extends, exchange_of}
+use Rattle.cmd_grammar.specs.Commands.{CommandTree}
+use Rattle.api_serve.specs.Shown.{service_of}
+use Rattle.api_serve.specs.declared.one.Answered.{Answered}
+use Rattle.outside_io.specs.Times.{next_time, times_after}
+use Rattle.store_core.specs.State.{State}
 use Rattle.api_serve.specs.Session.{Service, Serving, Makes, AreAsked, AreTraces, AreMoments, times_behind, reply_lines}
 use Rattle.store_core.specs.declared.entry.Entry.{Entry}
 use Rattle.store_core.specs.declared.entry.Entry.TheVariants.{Opened, Created, Dropped, Changed, Failed}
@@ -103,3 +110,30 @@ Makes-append service a b c xs ys p q = record {
   moments = told_moments a.times b.times xs ys p.moments p.clock q.moments;
   clock = q.clock ∙ ap (option_map (times_behind ys)) p.clock ∙ sym (told_behind a.times xs ys);
 }
+
+-- a request that was answered, as the session's next exchange
+pub one_made : (keyspace : List ℕ) (start : Option State) (session : ℕ) (moment : ℤ) (request : Request) (before after : Serving) (answered : Answered) → Answers keyspace session moment request start before.journal after.journal answered
+    → Grown session before.journal before.failed after.journal after.failed → after.traces ≡ before.traces ++ answered.trace ∷ [] → ForSome before.times (λ times. moment ≡ next_time times) → after.times ≡ option_map times_after before.times
+    → (x : Exchange) × (x.reply ≡ answered.reply) × IsAskedBy keyspace request x.asking × Makes (service_of keyspace start session) before (x ∷ []) after
+one_made keyspace start session moment request before after answered a grown traces gives clock = (
+  exchange_of a.asking answered,
+  refl,
+  a.asked,
+  record {
+    grown = grown;
+    session = a.session_is;
+    more = answered.trace ∷ [];
+    traces = traces;
+    kept = ((refl, refl), tt);
+    moments = λ times told. (a.moment_is ∙ gives times told, tt);
+    clock = clock;
+  },
+)
+
+-- a task that was served is the command of a request that was answered
+pub performed : (start : Option State) (session number : ℕ) (before after : List Entry) (coll : List ℕ) (command : CommandTree) (asking : Asking) (moment : ℤ) (answered : Answered) → session ≡ number → asking ≡ asks_for coll command
+    → ForSome start (λ base. (earlier : List Exchange) → IsSession base before session earlier → IsSession base after session (earlier ++ exchange_of asking answered ∷ []))
+    → Extends start number before after (exchange_of (asks_for coll command) answered)
+performed start session number before after coll command asking moment answered same is h = λ base told earlier was.
+    subst (λ (a : Asking). IsSession base after number (earlier ++ exchange_of a answered ∷ [])) is
+    (subst (λ (k : ℕ). (xs : List Exchange) → IsSession base before k xs → IsSession base after k (xs ++ exchange_of asking answered ∷ [])) same (h base told) earlier was)

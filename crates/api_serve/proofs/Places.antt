@@ -1,6 +1,8 @@
 -- Paths and requests, read in one way.
-use Rattle.std.proofs.Common.{◌≡◌, ◌<◌, ◌≤◌, ◌+◌, nat_lt, length, length-append, append_assoc, inl, inr, ◌++◌, ◌∷◌, [], ℕ, List, true, false, not, ◌==◌, IsTrue, Option, Some, None, refl, sym, ◌∙◌, ap, arith, codes}
+use Rattle.std.proofs.Common.{◌≡◌, ◌<◌, ◌≤◌, ◌+◌, nat_lt, length, length-append, append_assoc, inl, inr, ◌++◌, ◌∷◌, [], ℕ, zero, suc, get_or, List, true, false, not, ◌==◌, IsTrue, Option, Some, None, refl, sym, ◌∙◌, ap, arith, codes}
 use Rattle.std.proofs.lemmas.Bool.Decides.{nat_tests}
+use Rattle.std.proofs.lemmas.Str.{IsUtf8-from_ascii}
+use Rattle.std.specs.Str.{IsUtf8, IsAscii}
 use Rattle.std.proofs.lemmas.List.{append-nil}
 use Rattle.std.proofs.lemmas.List.Folds.{list_all-append}
 use Rattle.std.specs.List.{list_all}
@@ -123,3 +125,17 @@ long_seen part path body path₂ body₂ text free text₂ free₂ long =
     let parts = cut_once 32 path path₂ body body₂ free free₂ (sym text ∙ text₂) in
     let long' : 20000000 < length body = omega (arith, long, ap length parts.1) in
     grind (arith, nat_tests)
+
+-- ---- a part is text
+
+part_bytes : (bytes : List ℕ) → list_all is_part_byte bytes ≡ true → (i : ℕ) → get_or bytes i 0 < 128
+part_bytes [] e i = omega arith
+part_bytes (b ∷ bytes) e zero = let low = (both_true (is_part_byte b) (list_all is_part_byte bytes) e).0 in grind (arith, nat_tests)
+part_bytes (b ∷ bytes) e (suc i) = part_bytes bytes (both_true (is_part_byte b) (list_all is_part_byte bytes) e).1 i
+
+part_ascii : (part : List ℕ) → IsTrue (is_part part) → IsAscii part
+part_ascii [] e = λ i. omega arith
+part_ascii (b ∷ bytes) e = part_bytes (b ∷ bytes) e
+
+pub part_utf8 : (part : List ℕ) → IsTrue (is_part part) → IsUtf8 part
+part_utf8 part e = IsUtf8-from_ascii part (part_ascii part e)

@@ -169,3 +169,9 @@ short_front keyspace start now number stage waiting same line len later told is 
 -- two calls in turn leave the base
 pub same_base : {K : Type 0} (a b c : Stored K) → SameBase a b → SameBase b c → SameBase a c
 same_base a b c p q = (q.0 ∙ p.0, q.1 ∙ p.1, q.2 ∙ p.2)
+
+pub served_as : (service : Service) (stage : Serving) (output : List ℕ) (later : Serving) (line bytes : List ℕ) → line ≡ bytes → Serves service stage (line ∷ []) output later → Serves service stage (bytes ∷ []) output later
+served_as service stage output later line bytes is h = subst (λ (xs : List ℕ). Serves service stage (xs ∷ []) output later) is h
+
+pub short_as : (service : Service) (stage later : Serving) (line bytes : List ℕ) → line ≡ bytes → CutShort service line stage later → CutShort service bytes stage later
+short_as service stage later line bytes is h = subst (λ (xs : List ℕ). CutShort service xs stage later) is h

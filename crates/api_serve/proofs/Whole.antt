@@ -12,6 +12,8 @@ use Rattle.api_serve.specs.Request.{is_skipped}
 use Rattle.api_serve.specs.Run.{Serves, Reads, HasRead, ServesWholeLines, ServesBefore, ServesFirst}
 use Rattle.api_serve.specs.Ends.{EndsRun, IsReadFault, IsWriteFault}
 use Rattle.api_serve.specs.Piece.{fed}
+use Rattle.api_serve.specs.Shown.{service_of}
+use Rattle.store_core.specs.State.{State}
 use Rattle.api_serve.specs.Sent.{ServesPiece, AnswersBefore, AnswersFirst, EndsPiece, RefusesLast, AnswersNone, FinishesAs}
 use Rattle.api_serve.specs.declared.run.RunHow.{RunHow}
 use Rattle.api_serve.specs.declared.run.RunHow.TheVariants.{Done, ReadFault, WriteFault, TooLong, WrongLine, NoMemory}
@@ -263,3 +265,17 @@ grown a b c p q = omega (arith, p, q)
 
 pub front_fits : (n most : ℕ) (buffer : List ℕ) → n ≤ most → length (take n buffer) ≤ most
 front_fits n most buffer h = omega (arith, length-take n buffer, h)
+
+-- ---- the same history, by another name of its start
+
+pub finish_at : (keyspace : List ℕ) (start now : Option State) (number : ℕ) (stage : Serving) (run : Run) (later : Serving) (before after : Writing) (how : RunHow) → now ≡ start
+    → FinishesAs (service_of keyspace now number) stage run later before after how → FinishesAs (service_of keyspace start number) stage run later before after how
+finish_at keyspace start now number stage run later before after how is h = subst (λ (o : Option State). FinishesAs (service_of keyspace o number) stage run later before after how) is h
+
+pub piece_at : (keyspace : List ℕ) (start now : Option State) (number : ℕ) (stage : Serving) (run : Run) (later : Serving) (before after : Writing) (new : Run) → now ≡ start
+    → ServesPiece (service_of keyspace now number) stage run later before after new → ServesPiece (service_of keyspace start number) stage run later before after new
+piece_at keyspace start now number stage run later before after new is h = subst (λ (o : Option State). ServesPiece (service_of keyspace o number) stage run later before after new) is h
+
+pub end_at : (keyspace : List ℕ) (start now : Option State) (number : ℕ) (stage : Serving) (run : Run) (later : Serving) (before after : Writing) (how : RunHow) → now ≡ start
+    → EndsPiece (service_of keyspace now number) stage run later before after how → EndsPiece (service_of keyspace start number) stage run later before after how
+end_at keyspace start now number stage run later before after how is h = subst (λ (o : Option State). EndsPiece (service_of keyspace o number) stage run later before after how) is h

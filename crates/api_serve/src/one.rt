@@ -95,7 +95,7 @@ fn perform<K: Keeper>(
     ensures lawful { IsLawful store.new }
 {
     let task = Task::new(alloc, session, coll, moment, command);
-    let Served { reply, trace } = serve(alloc, store, task).into_served();
+    let Served { reply, trace } = serve(alloc, store, task);
     Answered { reply, trace }
 }
 

@@ -1,6 +1,7 @@
 -- One request of a session, from its first step to its last.
-use Rattle.std.proofs.Common.{◌≡◌, ◌≤◌, ◌<◌, ◌+◌, ℕ, List, [], ◌∷◌, ◌++◌, length, refl, sym, ap, ◌∙◌, subst, append_assoc, ⊎_elim, arith}
+use Rattle.std.proofs.Common.{◌≡◌, ◌≤◌, ◌<◌, ◌+◌, ℕ, Option, List, [], ◌∷◌, ◌++◌, length, refl, sym, ap, ◌∙◌, subst, append_assoc, ⊎_elim, arith}
 use Rattle.std.proofs.lemmas.List.{append-nil}
+use Rattle.std.specs.Prelude.{⊤}
 use Rattle.std.specs.Option.{ForSome}
 use Rattle.store_core.specs.State.{State as Base}
 use Rattle.store_core.specs.Journal.{IsJournal}
@@ -12,10 +13,11 @@ use Rattle.reply_env.specs.declared.reply.Reply.{Reply}
 use Rattle.reply_env.specs.declared.reply.Reply.TheVariants.{NoMemory}
 use Rattle.cmd_grammar.specs.Commands.{command_tree}
 use Rattle.cmd_tasks.specs.Served.{IsServed}
-use Rattle.cmd_tasks.specs.Session.{Exchange, IsSession, IsAnswered, Records, AreCounted}
+use Rattle.cmd_tasks.specs.Session.{Exchange, asks_for, IsSession, IsAnswered, Records, AreCounted}
 use Rattle.cmd_tasks.specs.Moves.{Risen}
-use Rattle.cmd_tasks.specs.Stands.{StandsOn, IsSame, Adds, IfDone, exchange}
+use Rattle.cmd_tasks.specs.Stands.{StandsOn, IsSame, Adds, IfDone, exchange, answered_by}
 use Rattle.cmd_tasks.specs.declared.task.Task.{Task}
+use Rattle.cmd_tasks.specs.declared.task.Served.{Served}
 use Rattle.cmd_tasks.specs.declared.trace.Item.{Item}
 use Rattle.cmd_tasks.specs.declared.work.State.{State}
 use Rattle.cmd_tasks.specs.declared.work.State.TheVariants.{Inserting, Selecting, Counting, Done}
@@ -150,3 +152,23 @@ done_more (Inserting d) P Q f h = h
 done_more (Selecting w last) P Q f h = h
 done_more (Counting w last n) P Q f h = h
 done_more (Done r) P Q f h = f r h
+
+done_with : (s : State) (P : Reply → Type 0) → IfDone s P → (r : Reply) × (s ≡ Done r) × P r
+done_with (Inserting d) P h = absurd h
+done_with (Selecting w last) P h = absurd h
+done_with (Counting w last n) P h = absurd h
+done_with (Done r) P h = (r, refl, h)
+
+-- a task that is done hands back what its session was told
+pub handed_back : (start : Option Base) (H H' : List Entry) (k : ℕ) (t t' : Task) (s : Served) → IsSame t t' → IfDone t'.state (λ reply. s.reply ≡ reply) → s.trace ≡ t'.trace
+    → IfDone t'.state (λ reply. ForSome start (λ base. (xs : List Exchange) → IsSession base H k xs → IsSession base H' k (xs ++ exchange t' reply ∷ [])))
+    → ForSome start (λ base. (xs : List Exchange) → IsSession base H k xs → IsSession base H' k (xs ++ answered_by t s ∷ []))
+handed_back start H H' k t t' s same reply trace served = λ base told xs h.
+    let d = done_with t'.state _ served in
+    let is : s.reply ≡ d.0 = let P : State → Type 0 = λ z. IfDone z (λ r. s.reply ≡ r) in subst P d.1 reply in
+    let one : exchange t' d.0 ≡ answered_by t s = λ i. record { asking = asks_for (same.coll i) (command_tree (same.command i)); moment = (sym trace i).moment; trace = (sym trace i).items.items; reply = sym is i } in
+    subst (λ (x : Exchange). IsSession base H' k (xs ++ x ∷ [])) one (d.2 base told xs h)
+
+-- it is done
+pub is_done : (s : State) (P : Reply → Type 0) → IfDone s P → IfDone s (λ reply. ⊤)
+is_done s P h = done_more s P _ (λ r p. tt) h

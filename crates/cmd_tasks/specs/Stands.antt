@@ -12,6 +12,7 @@ use Rattle.cmd_tasks.specs.Placed.{IsPlaced}
 use Rattle.cmd_tasks.specs.Moves.{Risen, asked, IsReady, IsUnderWay}
 use Rattle.cmd_tasks.specs.declared.trace.Item.{Item}
 use Rattle.cmd_tasks.specs.declared.task.Task.{Task}
+use Rattle.cmd_tasks.specs.declared.task.Served.{Served}
 use Rattle.cmd_tasks.specs.declared.work.State.{State}
 use Rattle.cmd_tasks.specs.declared.work.State.TheVariants.{Inserting, Selecting, Counting, Done}
 
@@ -43,3 +44,7 @@ IfDone (Done reply) P = P reply
 -- the request of a task that is done, as it was served
 abbrev pub exchange : Task → Reply → Exchange
 exchange task reply = record { asking = asks_for task.coll (command_tree task.command.value); moment = task.trace.moment; trace = task.trace.items.items; reply = reply }
+
+-- the request of a task, as it was served
+abbrev pub answered_by : Task → Served → Exchange
+answered_by task served = record { asking = asks_for task.coll (command_tree task.command.value); moment = served.trace.moment; trace = served.trace.items.items; reply = served.reply }

@@ -1,6 +1,6 @@
 use Rattle.cmd_tasks.specs.Moves.{left}
 use Rattle.cmd_tasks.proofs.Running.{IsServing}
-use Rattle.cmd_tasks.proofs.run.serve.Given as goal
+use Rattle.cmd_tasks.proofs.run.make_steps.Given as goal
 
 abbrev pub invariant-steps : goal.invariant-steps
 invariant-steps g l = IsServing g.K.Keeper.failed l.fn.store l.store l.fn.task l.task
