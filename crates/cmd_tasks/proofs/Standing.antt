@@ -85,7 +85,7 @@ sights_made k low high H H' trace trace' i made longer w =
 pub done_so : (s : State) (P : Reply → Type 0) (r : Reply) → s ≡ Done r → P r → IfDone s P
 done_so s P r is h = subst (λ (z : State). IfDone z P) (sym is) h
 
-asked_so : (o : Option Command) (c : CommandTree) (P : Command → Type 0) → o ≡ Some c → IfSome o P → P c
+asked_so : (o : Option CommandTree) (c : CommandTree) (P : CommandTree → Type 0) → o ≡ Some c → IfSome o P → P c
 asked_so o c P e h = subst (λ (z : Option CommandTree). IfSome z P) e h
 
 begins_asked : (c : CommandTree) (w : State) → Begins c w → asked w ≡ Some c

@@ -11,4 +11,4 @@ ends_with true page v id e l i = cc
 ends_with false page v id e l i = ap (λ x. Some x) i ∙ sym (ap (option_map (λ x. id_of x.doc)) l)
 
 pub returns-in-Ok : goal.returns-in-Ok
-returns-in-Ok c = ends_with c.args.end c.args.rows.now c.in-Some.row.now c.in-Ok.id c.if-end.false (sym (last_is c.args.rows.now) ∙ sym c.in-Some.ensures.value) (c.in-Ok.ensures ∙ c.id.ensures.value)
+returns-in-Ok c = ends_with c.args.end c.args.rows.now c.in-Some.row.now c.in-Ok.id c.if-end.false (sym (last_is c.args.rows.now) ∙ sym c.in-Some.ensures.value) (c.in-Ok.ensures.ok ∙ c.id.ensures.value)
