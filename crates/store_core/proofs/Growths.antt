@@ -23,10 +23,10 @@ use Rattle.store_core.specs.declared.outcome.Listed.TheVariants as li
 
 stay : (by : Option ℕ) (old new : List Entry) → new ≡ old → Grows by old new
 stay None old new is = is
-stay (Some by) old new is = ([], (is ∙ sym (append-nil old), (tt, omega arith)))
+stay (Some by) old new is = ([], is ∙ sym (append-nil old), tt, omega arith)
 
 one : (by : ℕ) (old new : List Entry) (e : Entry) → by_of e ≡ by → new ≡ old ++ e ∷ [] → Grows (Some by) old new
-one by old new e its is = (e ∷ [], (is, ((its, tt), omega arith)))
+one by old new e its is = (e ∷ [], is, (its, tt), omega arith)
 
 module _ {K : Type 0} (failed : K → ℕ) (old new : Stored K) where
   fault : (by : Option ℕ) (at before count : ℕ) → Fails failed by old new at before count → Grows by old.journal new.journal

@@ -251,7 +251,7 @@ module _ (start : Option State) (first count : ℕ) (j : List Entry) (told : Opt
         let e : Entry = Failed by before now in (
           subst (λ (x : List Entry). IsHistory start first count x told' n') (sym is)
               (goes_on e told' n' (same ∙ h.tables_are)
-              (λ b q. let s = sessions_now b q in let f = faults_few b q in (omega arith, (omega arith, grew before now rose lb ln)))
+              (λ b q. let s = sessions_now b q in let f = faults_few b q in (omega arith, omega arith, grew before now rose lb ln))
               (let x = opened-append j (Failed by before now) in omega arith)
               (let x = count_failed count j by before now in omega arith)
               (let l = h.low in let x = writes-append j (Failed by before now) in omega arith)),
@@ -302,7 +302,7 @@ module _ (start : Option State) (first count : ℕ) (j : List Entry) (told : Opt
         let e : Entry = Created by coll in (
           subst (λ (x : List Entry). IsHistory start first count x told' n') (sym is)
               (goes_on e told' n' (changes_so e (created coll) told' changed (λ b q. refl))
-              (λ b q. let s = sessions_now b q in let r = absent (tables_of (replay b j)) (told_at b q) in (omega arith, (r.0, r.1)))
+              (λ b q. let s = sessions_now b q in let r = absent (tables_of (replay b j)) (told_at b q) in (omega arith, r.0, r.1))
               (let x = opened-append j (Created by coll) in omega arith)
               (let k = h.counted in let x = count_more count j (Created by coll) (λ c. refl) in omega arith)
               (let l = h.low in let x = writes-append j (Created by coll) in omega arith)),

@@ -15,4 +15,4 @@ look_shows (Some rows) id row h = ((rows, refl), h)
 
 pub page_shows : (o : Option Rows) (probe : Probe) (after : Option Tree) (w : Walked) → WalkAnswers o probe after 64 (Ok w) → (rows : Rows) × (o ≡ Some rows) × ShowsPage probe after rows w.rows.items w.end
 page_shows None probe after w h = absurd h
-page_shows (Some rows) probe after w h = (rows, (refl, h))
+page_shows (Some rows) probe after w h = (rows, refl, h)

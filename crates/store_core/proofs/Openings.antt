@@ -4,24 +4,23 @@ use Rattle.std.specs.Option.{option_map}
 use Rattle.std.proofs.lemmas.List.{take_more, length-take-le, length-map}
 use Rattle.shred_cols.specs.Rows.{Rows}
 use Rattle.col_keeper.specs.Tables.{Name, Collections, Tables, rows_in, names_of, created, with_collection}
-use Rattle.store_core.specs.Opening.{is_among, missing, missed, with_name, with_name_if, with_names, opened_with, would_live}
+use Rattle.store_core.specs.Opening.{is_among, missing, missed, with_name, with_name_if, with_names, begun_with, opened_with, would_live, Prepares}
+use Rattle.store_core.specs.declared.open.Prepared.{Prepared}
+use Rattle.store_core.specs.declared.open.Prepared.TheVariants as p
 use Rattle.store_core.proofs.Histories.{map_told, map_map}
 
 -- ---- the names
 
-found_one : List Name → Name → List Name → List Name
-found_one listed n found = if is_among n listed || is_among n found then found else found ++ n ∷ []
+abbrev found_one : List Name → Name → List Name → List Name
+found_one listed n m = if is_among n listed || is_among n m then m else m ++ n ∷ []
+
+found_if : (b : Bool) (n : Name) (listed m m' l l' : List Name) → l ≡ found_one listed n m → l' ≡ found_one listed n m' → (if b then l else l') ≡ found_one listed n (if b then m else m')
+found_if true n listed m m' l l' e f = e
+found_if false n listed m m' l l' e f = f
 
 missing-append : (listed found ns : List Name) (n : Name) → missing listed found (ns ++ n ∷ []) ≡ (if is_among n listed || is_among n (missing listed found ns) then missing listed found ns else missing listed found ns ++ n ∷ [])
 missing-append listed found [] n = refl
-missing-append listed found (x ∷ ns) n = go (is_among x listed || is_among x found)
-  where
-    step : List Name → List Name
-    step m = if is_among n listed || is_among n m then m else m ++ n ∷ []
-
-    go : (b : Bool) → (if b then missing listed found (ns ++ n ∷ []) else missing listed (found ++ x ∷ []) (ns ++ n ∷ [])) ≡ step (if b then missing listed found ns else missing listed (found ++ x ∷ []) ns)
-    go true = missing-append listed found ns n
-    go false = missing-append listed (found ++ x ∷ []) ns n
+missing-append listed found (x ∷ ns) n = found_if (is_among x listed || is_among x found) n listed (missing listed found ns) (missing listed (found ++ x ∷ []) ns) _ _ (missing-append listed found ns n) (missing-append listed (found ++ x ∷ []) ns n)
 
 or_true : (a b : Bool) → b ≡ true → a || b ≡ true
 or_true true b e = refl
@@ -97,3 +96,11 @@ same_missed names listed found t is at = is ∙ ap (λ l. missing l [] names) at
 pub so_many : (names listed found : List Name) (t : Tables) → found ≡ missing listed [] names → listed ≡ names_of t.collections → length listed + length found ≡ would_live names t
 so_many names listed found t is at =
     let a = ap length at in let b = length-map t.collections (λ c. c.name) in let d = ap length (same_missed names listed found t is at) in omega arith
+
+-- ---- what a preparation leaves, by the tables before alone
+
+pub prepares_from : {K : Type 0} (tables : K → Option Tables) (names : List Name) (old mid new : K) (r : Prepared) → tables mid ≡ tables old → Prepares tables names mid new r → Prepares tables names old new r
+prepares_from tables names old mid new (p.At first) same h = (h.0 ∙ ap (option_map (opened_with names)) same, h.1, h.2, λ t e. h.3 t (same ∙ e))
+prepares_from tables names old mid new p.TooMany same h = λ t e. let x = h t (same ∙ e) in (x.0, x.1 ∙ same)
+prepares_from tables names old mid new p.Failed same h = (h.0, h.1 ∙ ap (option_map (begun_with h.0 names)) same)
+prepares_from tables names old mid new p.NoMemory same h = (h.0, h.1 ∙ ap (option_map (begun_with h.0 names)) same)

@@ -25,4 +25,4 @@ names-preserved g c =
 pub returns-in-Full-clause-full : goal.returns-in-Full-clause-full
 returns-in-Full-clause-full g c =
     let within : c.names.place < length c.args.names.now = omega arith in
-    no_room c.args.names.now c.names.place c.index-names-place.result _ _ (g.K.Keeper.tables c.create.new.self) within c.index-names-place.is c.names.invariant.made (λ t told. let a = c.in-Full.ensures.answers t told in a.1.0)
+    λ same. no_room c.args.names.now c.names.place c.index-names-place.result _ _ (g.K.Keeper.tables c.create.new.self) within c.index-names-place.is c.names.invariant.made (λ t told. let a = c.in-Full.ensures.answers t told in a.1)

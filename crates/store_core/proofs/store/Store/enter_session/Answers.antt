@@ -11,8 +11,8 @@ overflow_add-self g c =
     let counts = all.1 in
     let sessions = counts.sessions_are in
     let le = opened_le c.enter.new.journal.items in
-    let len : length c.enter.new.journal.items ≡ c.len.result = search rules in
-    omega (arith, sessions, c.len.type_inv)
+    let len : length c.enter.new.journal.items ≡ c.len-len.result = search rules in
+    omega (arith, sessions, c.len-len.type_inv)
 
 pub invariant_of-self-2 : goal.invariant_of-self-2
 invariant_of-self-2 g c =

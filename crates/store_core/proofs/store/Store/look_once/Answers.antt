@@ -22,5 +22,6 @@ invariant_of-self-in-Err-Failed g c =
 pub returns-in-Ok-clause-answers : goal.returns-in-Ok-clause-answers
 returns-in-Ok-clause-answers g c = (
   (search rules, search rules),
-  (search rules, rw (← c.self.view_is) (λ b e. look_shows _ _ _ (c.in-Ok.ensures.answers _ (told_at _ _ _ _ _ _ c.self.invariant.0 b e)))),
+  search rules,
+  rw (← c.self.view_is) (λ b e. look_shows _ _ _ (c.in-Ok.ensures.answers _ (told_at _ _ _ _ _ _ c.self.invariant.0 b e))),
 )

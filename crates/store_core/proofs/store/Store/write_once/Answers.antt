@@ -23,8 +23,8 @@ invariant_of-self-in-Done g c =
     c.enter.ensures.entered
     ∙ ap (λ (l : List Entry). l ++ Changed c.args.by c.in-Ok-Ok.name c.in-Ok-Ok.key c.args.change c.args.read c.args.tx ∷ []) c.reserve.ensures.items
     ∙ (λ i. c.self.inside.journal.items ++ Changed c.args.by (c.in-Ok-Ok.ensures.ok i) (c.in-Ok-Ok.ensures'.ok i) c.args.change c.args.read c.args.tx ∷ []) in
-    wrote_so _ _ _ _ _ _ c.self.invariant.0 _ _ _ c.self.invariant.1 _ _ _ c.args.by c.args.coll.now c.args.id.now c.args.change c.args.read c.args.tx _ _ c.text_size_of.result
-    known number c.requires.left c.requires.new c.requires.read (c.in-Done.ensures.done refl) c.in-Done.ensures.answers c.keep.ensures.grows journal refl c.text_size_of.ensures c.enter.ensures.size
+    wrote_so _ _ _ _ _ _ c.self.invariant.0 _ _ _ c.self.invariant.1 _ _ _ c.args.by c.args.coll.now c.args.id.now c.args.change c.args.read c.args.tx _ _ c.text_size_of-text.result
+    known number c.requires.left c.requires.new c.requires.read (c.in-Done.ensures.done refl) c.in-Done.ensures.answers c.keep.ensures.grows journal refl c.text_size_of-text.ensures c.enter.ensures.size
 
 pub invariant_of-self-in-Failed : goal.invariant_of-self-in-Failed
 invariant_of-self-in-Failed g c =
