@@ -1,3 +1,7 @@
-pub mod Members
+pub mod Insertions
+pub mod Inside
+pub mod Judging
 pub mod Order
+pub mod Storing
 pub mod Table
+pub mod Wanted

@@ -1,13 +1,21 @@
 -- A request whose tests have been made. Only the crate's private clauses cite it.
-use Rattle.std.specs.Prelude.{◌≡◌, Some, ⊤, codes, option_and_then}
+use Rattle.std.specs.Prelude.{◌≡◌, ℕ, List, [], ◌∷◌, Option, Some, ⊤, codes, option_and_then}
+use Rattle.std.specs.Option.{option_or}
 use Rattle.json_tree.specs.Tree.{Tree}
 use Rattle.filter_tree.specs.Filters.{FilterTree}
 use Rattle.reply_env.specs.declared.request.Place.{Place}
 use Rattle.cmd_grammar.specs.Commands.{CommandTree, insert_one, find_one, count_documents, IsStorable}
-use Rattle.cmd_grammar.specs.Refused.{command_at, member_in}
+use Rattle.cmd_grammar.specs.Refused.{command_at, member_in, keyspace_refusal, collection_refusal, command_refusal}
+use Rattle.cmd_grammar.specs.First.{first_of}
+use Rattle.reply_env.specs.declared.reply.ErrorItem.{ErrorItem}
 use Rattle.cmd_grammar.specs.Asked.{filter_of, document_of}
 use Rattle.cmd_grammar.specs.declared.name.Name.{Name}
 use Rattle.cmd_grammar.specs.declared.name.Name.TheVariants.{InsertOne, FindOne, CountDocuments}
+
+-- the tests behind that of the command's name
+abbrev pub named_refusal : List ℕ → Place → Name × Tree → Option ErrorItem
+named_refusal keyspace place command =
+    option_or (first_of (keyspace_refusal keyspace place.keyspace ∷ collection_refusal place.collection ∷ [])) (command_refusal command)
 
 -- what the command of this name has to have in its value
 abbrev pub HasParts : Name → Tree → Type 0

@@ -52,7 +52,7 @@ fn check_names(alloc: Global, document: &Value) -> Result<(), CommandFault>
     }
 }
 
-fn check_limits(alloc: Global, document: &Value) -> Result<(), CommandFault>
+fn check_sizes(alloc: Global, document: &Value) -> Result<(), CommandFault>
     ensures { Passes (limit_refusal (broken (tree document.now))) (λ _. broken (tree document.now) ≡ None) result }
 {
     match check(document) {
@@ -70,7 +70,12 @@ fn check_limits(alloc: Global, document: &Value) -> Result<(), CommandFault>
 pub(crate) fn check_document(alloc: Global, document: &Value) -> Result<(), CommandFault>
     ensures { Passes (document_refusal (tree document.now)) (λ _. IsStorable (tree document.now)) result }
 {
-    check_id(alloc, document)?;
-    check_names(alloc, document)?;
-    check_limits(alloc, document)
+    match check_id(alloc, document) {
+        Ok(()) => {}
+        Err(fault) => return Err(fault),
+    }
+    match check_names(alloc, document) {
+        Ok(()) => check_sizes(alloc, document),
+        Err(fault) => Err(fault),
+    }
 }

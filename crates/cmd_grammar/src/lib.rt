@@ -7,6 +7,7 @@ mod documents;
 mod fault;
 mod fields;
 mod filters;
+mod members;
 mod name;
 mod reading;
 mod row;

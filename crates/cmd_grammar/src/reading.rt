@@ -1,14 +1,17 @@
 // The reader of commands.
-ghost use Rattle.std.specs.Prelude.{◌≡◌, ⊤, codes, option_map, None, IfOk, IfSome, OnOk};
+ghost use Rattle.std.specs.Prelude.{◌≡◌, ◌≢◌, ⊤, codes, option_map, Some, None, IfOk, IfSome, OnOk};
+ghost use Rattle.json_text.specs.declared.read.TextFault.{TextFault};
+ghost use Rattle.reply_env.specs.Messages as errors;
+ghost use Rattle.cmd_grammar.specs.declared.fault.CommandFault.{CommandFault};
 ghost use Rattle.json_tree.specs.View.{tree};
 ghost use Rattle.json_tree.specs.Writable.{IsWritable};
 ghost use Rattle.filter_tree.specs.View.{filter_tree};
 ghost use Rattle.cmd_grammar.specs.Refused.{command_at, member_in, fields_refusal, inserted_refusal, command_refusal, refused};
 ghost use Rattle.cmd_grammar.specs.Asked.{filter_of, IsPlaced};
 ghost use Rattle.cmd_grammar.specs.Commands.{command_tree, IsAskable, IsAskableFilter, IsStorable};
-ghost use Rattle.cmd_grammar.specs.Answers.{Passes, Answers};
+ghost use Rattle.cmd_grammar.specs.Answers.{Refuses, Passes, Answers};
 ghost use Rattle.cmd_grammar.specs.Requests.{IsReadAs};
-ghost use Rattle.cmd_grammar.specs.Judged.{HasParts, IsJudged, IsInsertion, IsInsertionOf};
+ghost use Rattle.cmd_grammar.specs.Judged.{named_refusal, HasParts, IsJudged, IsInsertion, IsInsertionOf};
 
 use crate::checks::check_place;
 use crate::command::Command;
@@ -16,6 +19,7 @@ use crate::documents::check_document;
 use crate::fault::{CommandFault, refuse};
 use crate::fields::check_fields;
 use crate::filters::read_filter;
+use crate::members::{member, take_member};
 use crate::name::{Name, command_named};
 use crate::row::table_row;
 use filter_tree::Filter;
@@ -28,20 +32,20 @@ use std::alloc::Global;
 fn named<'v>(place: &Place, value: &'v Value) -> Option<(Name, &'v Value)>
     ensures { option_map (λ p. (p.0, tree p.1.now)) result ≡ command_at place.now.collection (tree value.now) }
 {
-    if place.collection.is_none() {
+    let Some(_) = &place.collection else {
         return None;
-    }
+    };
     let Value::Object(members) = value else {
         return None;
     };
     if members.len() != 1 {
         return None;
     }
-    let Some((name, inner)) = members.pair(0) else {
-        return None;
-    };
-    match command_named(name.as_str()) {
-        Some(name) => Some((name, inner)),
+    match members.pair(0) {
+        Some((name, inner)) => match command_named(name.as_str()) {
+            Some(name) => Some((name, inner)),
+            None => None,
+        },
         None => None,
     }
 }
@@ -53,29 +57,6 @@ fn check_members(alloc: Global, name: Name, command: &Value) -> Result<(), Comma
     match command {
         Value::Object(members) => check_fields(alloc, table_row(name), members),
         _ => Err(refuse(bad_field(alloc, name.text()))),
-    }
-}
-
-// A member of a value.
-fn member<'v>(value: &'v Value, name: &str) -> Option<&'v Value>
-    ensures { option_map (λ v. tree v.now) result ≡ member_in name.now (tree value.now) }
-{
-    match value {
-        Value::Object(members) => members.get(name),
-        _ => None,
-    }
-}
-
-// A member of a value, moved out of it.
-fn take_member(value: Value, name: &str) -> Option<Value>
-    ensures { option_map tree result ≡ member_in name.now (tree value) }
-{
-    match value {
-        Value::Object(members) => {
-            let mut members = members;
-            members.remove(name)
-        }
-        _ => None,
     }
 }
 
@@ -94,10 +75,35 @@ fn check_command(alloc: Global, name: Name, command: &Value) -> Result<Filter, C
     ensures answers { Passes (command_refusal (name, tree command.now)) (λ f. (filter_tree f ≡ filter_of (tree command.now)) × HasParts name (tree command.now)) result }
     ensures filter { IsWritable (tree command.now) → IfOk result (λ f. IsAskableFilter (filter_tree f)) }
 {
-    check_members(alloc, name, command)?;
-    let filter = read_filter(alloc, command)?;
-    check_inserted(alloc, command)?;
-    Ok(filter)
+    match check_members(alloc, name, command) {
+        Ok(()) => {}
+        Err(fault) => return Err(fault),
+    }
+    let filter = match read_filter(alloc, command) {
+        Ok(filter) => filter,
+        Err(fault) => return Err(fault),
+    };
+    match check_inserted(alloc, command) {
+        Ok(()) => Ok(filter),
+        Err(fault) => Err(fault),
+    }
+}
+
+// The tests of a request that is of this command, behind that of its name.
+fn judge_named(
+    alloc: Global,
+    place: &Place,
+    keyspace: &str,
+    name: Name,
+    command: &Value,
+) -> Result<Filter, CommandFault>
+    ensures answers { Passes (named_refusal keyspace.now place.now (name, tree command.now)) (λ f. (filter_tree f ≡ filter_of (tree command.now)) × HasParts name (tree command.now)) result }
+    ensures filter { IsWritable (tree command.now) → IfOk result (λ f. IsAskableFilter (filter_tree f)) }
+{
+    match check_place(alloc, keyspace, place) {
+        Ok(()) => check_command(alloc, name, command),
+        Err(fault) => Err(fault),
+    }
 }
 
 // The tests of a request.
@@ -110,13 +116,12 @@ fn judge(
     ensures answers { Passes (refused keyspace.now place.now (tree value.now)) (λ j. IsJudged place.now (tree value.now) j.0 (filter_tree j.1)) result }
     ensures filter { IsWritable (tree value.now) → IfOk result (λ j. IsAskableFilter (filter_tree j.1)) }
 {
-    let Some((name, command)) = named(place, value) else {
-        return Err(refuse(no_command(alloc)));
-    };
-    check_place(alloc, keyspace, place)?;
-    match check_command(alloc, name, command) {
-        Ok(filter) => Ok((name, filter)),
-        Err(fault) => Err(fault),
+    match named(place, value) {
+        None => Err(refuse(no_command(alloc))),
+        Some((name, command)) => match judge_named(alloc, place, keyspace, name, command) {
+            Ok(filter) => Ok((name, filter)),
+            Err(fault) => Err(fault),
+        },
     }
 }
 
@@ -162,11 +167,13 @@ pub fn read_command(
     ensures ready { IsWritable (tree value.now) → IfOk result (λ c. IsAskable (command_tree c)) }
     ensures placed { OnOk result (IsPlaced keyspace.now place.now) }
 {
-    let (name, filter) = judge(alloc, place, keyspace, value)?;
-    match name {
-        Name::InsertOne => copied_insertion(alloc, value),
-        Name::FindOne => Ok(Command::FindOne { filter }),
-        Name::CountDocuments => Ok(Command::CountDocuments { filter }),
+    match judge(alloc, place, keyspace, value) {
+        Ok((name, filter)) => match name {
+            Name::InsertOne => copied_insertion(alloc, value),
+            Name::FindOne => Ok(Command::FindOne { filter }),
+            Name::CountDocuments => Ok(Command::CountDocuments { filter }),
+        },
+        Err(fault) => Err(fault),
     }
 }
 
@@ -181,11 +188,24 @@ pub fn take_command(
     ensures ready { IsWritable (tree value) → IfOk result (λ c. IsAskable (command_tree c)) }
     ensures placed { OnOk result (IsPlaced keyspace.now place.now) }
 {
-    let (name, filter) = judge(alloc, place, keyspace, &value)?;
-    match name {
-        Name::InsertOne => Ok(taken_insertion(value)),
-        Name::FindOne => Ok(Command::FindOne { filter }),
-        Name::CountDocuments => Ok(Command::CountDocuments { filter }),
+    match judge(alloc, place, keyspace, &value) {
+        Ok((name, filter)) => match name {
+            Name::InsertOne => Ok(taken_insertion(value)),
+            Name::FindOne => Ok(Command::FindOne { filter }),
+            Name::CountDocuments => Ok(Command::CountDocuments { filter }),
+        },
+        Err(fault) => Err(fault),
+    }
+}
+
+// The refusal of a body that spells no value.
+fn refuse_unread(alloc: Global, fault: TextFault) -> CommandFault
+    ensures told { fault ≢ TextFault.NoMemory → Refuses (Some (errors.unread fault)) result }
+    ensures wanting { fault ≡ TextFault.NoMemory → result ≡ CommandFault.NoMemory }
+{
+    match fault {
+        TextFault::NoMemory => CommandFault::NoMemory,
+        _ => refuse(unread(alloc, fault)),
     }
 }
 
@@ -198,7 +218,6 @@ pub fn read_request(alloc: Global, keyspace: &str, request: &Request) -> Result<
 {
     match read_value(alloc, request.body.as_slice()) {
         Ok(value) => take_command(alloc, &request.place, keyspace, value),
-        Err(TextFault::NoMemory) => Err(CommandFault::NoMemory),
-        Err(fault) => Err(refuse(unread(alloc, fault))),
+        Err(fault) => Err(refuse_unread(alloc, fault)),
     }
 }

@@ -4,7 +4,7 @@ use Rattle.std.specs.Option.{option_map}
 use Rattle.json_tree.specs.View.{tree}
 use Rattle.cmd_grammar.specs.Rows.{field_of}
 use Rattle.cmd_grammar.specs.Answers.{Passes}
-use Rattle.cmd_grammar.proofs.Members.{options_are}
+use Rattle.cmd_grammar.proofs.Inside.{options_are}
 use Rattle.cmd_grammar.proofs.fields.check_options.Goals as goal
 
 pub returns-in-Some-Object : goal.returns-in-Some-Object
