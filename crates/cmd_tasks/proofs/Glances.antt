@@ -25,7 +25,7 @@ use Rattle.cmd_tasks.specs.Rank.{rank_of, IsKeyed}
 use Rattle.cmd_tasks.specs.Trace.{sight, rows_now, found_in, probed_in, probe_of}
 use Rattle.cmd_tasks.specs.Served.{Stops}
 use Rattle.cmd_tasks.specs.Pages.{found_row, last_of, up_of}
-use Rattle.cmd_tasks.specs.Moves.{Made, GoesUp, IsLooked, ShowsRows, Glances, Sees, Refuses}
+use Rattle.cmd_tasks.specs.Moves.{Made, GoesUp, IsLooked, ShowsRows, ShowsNothing, StopsWith, Glances, Sees, Refuses}
 use Rattle.cmd_tasks.specs.declared.trace.Item.{Item}
 use Rattle.cmd_tasks.specs.declared.trace.Item.TheVariants.{Looked, Wrote, Lost, Faulted}
 use Rattle.cmd_tasks.specs.declared.work.Glance.{Glance}
@@ -97,6 +97,19 @@ pub shown_glances : (k low high : ℕ) (last : Option Tree) (H H' : List Entry) 
 shown_glances k low high last H H' f at page end (g.Shown item rs up) same here p is = (looked_here k low high H H' item at last _ _ same here is.2, subst (GoesUp last) (sym is.1) p)
 shown_glances k low high last H H' f at page end (g.Ended item r) same here p is = absurd is
 shown_glances k low high last H H' f at page end g.NoMemory same here p is = same
+
+-- no page, told or not
+pub gone_glances : (k low high : ℕ) (last : Option Tree) (H H' : List Entry) (at : ℕ) (P : Reply → Type 0) (o : Glance) → H' ≡ H → at ≡ length H → ShowsNothing at last P o → Glances k low high last H H' o
+gone_glances k low high last H H' at P (g.Shown item rs up) same here is = absurd is
+gone_glances k low high last H H' at P (g.Ended item r) same here is = looked_here k low high H H' item at last None [] same here is.0
+gone_glances k low high last H H' at P g.NoMemory same here is = absurd is
+
+pub fault_glances : (k low high : ℕ) (last : Option Tree) (H H' : List Entry) (at before count : ℕ) (P : Reply → Type 0) (o : Glance) → H' ≡ H ++ Failed k before count ∷ [] → at ≡ length H → Rose before count → before ≡ low → count ≡ high
+    → StopsWith (Faulted at before count) P o → Glances k low high last H H' o
+fault_glances k low high last H H' at before count P (g.Shown item rs up) longer here rose low_is high_is is = absurd is
+fault_glances k low high last H H' at before count P (g.Ended item r) longer here rose low_is high_is is =
+    subst (λ (i : Item). Made k low high H H' i) (sym is.0) (failed_here k low high H H' at before count longer here rose low_is high_is)
+fault_glances k low high last H H' at before count P g.NoMemory longer here rose low_is high_is is = absurd is
 
 module _ (base : State) (coll : Name) (k : ℕ) where
   -- a page of the rows that stand there

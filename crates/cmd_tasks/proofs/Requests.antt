@@ -5,6 +5,7 @@ use Rattle.std.specs.Option.{option_map}
 use Rattle.std.proofs.lemmas.List.{length-map}
 use Rattle.std.proofs.lemmas.Bool.{leb-true}
 use Rattle.std.proofs.lemmas.Bool.Decides.{leb_tells}
+use Rattle.outside_io.specs.Causes.{Rose}
 use Rattle.json_tree.specs.Tree.{Tree}
 use Rattle.json_tree.specs.View.{tree}
 use Rattle.json_tree.specs.declared.value.Value.{Value}
@@ -28,7 +29,7 @@ use Rattle.cmd_tasks.specs.Trace.{Sight, sight, shown, shown_by, IsLook, GoesOn,
 use Rattle.cmd_tasks.specs.Served.{IsPartOf, Serves, Stops, IsStopped, Marks, IsToWrite, IsInserted, IsTaken, TellsInserted, TellsFound, counted, accepted, one_if_wrote}
 use Rattle.cmd_tasks.specs.Pages.{found_row}
 use Rattle.cmd_tasks.specs.Wanted.{IsWanted}
-use Rattle.cmd_tasks.specs.Moves.{Made, GoesUp, Glances, Steps, Sees, StopsSo, Leads, IsBegun, IsUnderWay, Selects, EndsSo, Finds, Refuses, count_to, IsLooked}
+use Rattle.cmd_tasks.specs.Moves.{Made, GoesUp, Glances, Steps, Sees, StopsSo, Leads, IsBegun, IsUnderWay, Selects, EndsSo, EndsMarked, ShowsNothing, StopsWith, Finds, Refuses, count_to, IsLooked}
 use Rattle.cmd_tasks.specs.declared.trace.Item.{Item}
 use Rattle.cmd_tasks.specs.declared.trace.Item.TheVariants.{Looked, Wrote, Lost, Faulted}
 use Rattle.cmd_tasks.specs.declared.work.Wanted.{Wanted}
@@ -36,8 +37,9 @@ use Rattle.cmd_tasks.specs.declared.work.State.{State}
 use Rattle.cmd_tasks.specs.declared.work.State.TheVariants.{Inserting, Selecting, Counting}
 use Rattle.cmd_tasks.specs.declared.work.Moved.{Moved}
 use Rattle.cmd_tasks.specs.declared.work.Moved.TheVariants as m
+use Rattle.cmd_tasks.specs.declared.work.Glance.{Glance}
 use Rattle.cmd_tasks.specs.declared.work.Glance.TheVariants as g
-use Rattle.cmd_tasks.proofs.Glances.{saw, saw_before, saw_entry, lost_here}
+use Rattle.cmd_tasks.proofs.Glances.{saw, saw_before, saw_entry, lost_here, looked_here, failed_here}
 
 -- ---- what a step is, told or not
 
@@ -70,6 +72,17 @@ pub taken_steps : (k low high : ℕ) (H H' : List Entry) (w : State) (at tx : �
 taken_steps k low high H H' w at tx P (m.Goes i s) same here is = absurd is
 taken_steps k low high H H' w at tx P (m.Ends i r) same here is = subst (Made k low high H H') (sym is.0) (lost_here k low high H H' at (Some tx) same here)
 taken_steps k low high H H' w at tx P m.NoMemory same here is = absurd is
+
+pub marked_steps : (k low high : ℕ) (H H' : List Entry) (w : State) (at : ℕ) (after up : Option Tree) (P : Reply → Type 0) (o : Moved) → H' ≡ H → at ≡ length H → EndsMarked at after up P o → Steps k low high w H H' o
+marked_steps k low high H H' w at after up P (m.Goes i s) same here is = absurd is
+marked_steps k low high H H' w at after up P (m.Ends i r) same here is = looked_here k low high H H' i at after up [] same here is.0
+marked_steps k low high H H' w at after up P m.NoMemory same here is = absurd is
+
+pub failed_steps : (k low high : ℕ) (H H' : List Entry) (w : State) (at before count : ℕ) (P : Reply → Type 0) (o : Moved) → H' ≡ H ++ Failed k before count ∷ [] → at ≡ length H → Rose before count → before ≡ low → count ≡ high
+    → EndsSo (Faulted at before count) P o → Steps k low high w H H' o
+failed_steps k low high H H' w at before count P (m.Goes i s) longer here rose low_is high_is is = absurd is
+failed_steps k low high H H' w at before count P (m.Ends i r) longer here rose low_is high_is is = subst (Made k low high H H') (sym is.0) (failed_here k low high H H' at before count longer here rose low_is high_is)
+failed_steps k low high H H' w at before count P m.NoMemory longer here rose low_is high_is is = absurd is
 
 -- no number was read, and so one was found
 pub found_one : (found : Option ℕ) → found ≢ None → (tx : ℕ) × (found ≡ Some tx)
@@ -166,6 +179,21 @@ module _ (base : Base) (coll : Name) (k : ℕ) where
   mark_serves d earlier H H' at (Lost a read f) error reply begun same here is cause refuses = absurd is
   mark_serves d earlier H H' at (Faulted a b c) error reply begun same here is cause refuses = absurd is
 
+  pub marked_leads : (d : Value) (earlier : List Sight) (H H' : List Entry) (at : ℕ) (key twin : Tree) (error : ErrorItem) (o : Moved) → key ≡ id_of (tree d) → twin ≡ id_of (tree d) → IsUnderWay base coll k (Inserting d) earlier → H' ≡ H → at ≡ length H
+      → (IsGone coll (replay base H) × (error ≡ errors.no_collection coll)) ⊎ (((replay base H).next ≡ 2 ^ 63 - 1) × (error ≡ errors.versions_spent))
+      → EndsMarked at (Some key) (Some twin) (Refuses error) o → Leads base coll k H' (Inserting d) earlier o
+  marked_leads d earlier H H' at key twin error (m.Goes i w) key_is twin_is way same here cause is = absurd is
+  marked_leads d earlier H H' at key twin error (m.Ends i r) key_is twin_is way same here cause is =
+      mark_serves (tree d) earlier H H' at i error r way.0 same here (subst (λ (t : Tree). IsLooked i at (Some (id_of (tree d))) (Some t) []) twin_is (subst (λ (t : Tree). IsLooked i at (Some t) (Some twin) []) key_is is.0)) cause is.1
+  marked_leads d earlier H H' at key twin error m.NoMemory key_is twin_is way same here cause is = absurd is
+
+  pub failed_leads : (d : Value) (earlier : List Sight) (H H' : List Entry) (at before count : ℕ) (o : Moved) → IsUnderWay base coll k (Inserting d) earlier → H' ≡ H ++ Failed k before count ∷ [] → at ≡ length H
+      → EndsSo (Faulted at before count) (Refuses (errors.store_fault before count)) o → Leads base coll k H' (Inserting d) earlier o
+  failed_leads d earlier H H' at before count (m.Goes i w) way longer here is = absurd is
+  failed_leads d earlier H H' at before count (m.Ends i r) way longer here is =
+      subst (λ (z : Item). Serves base coll k (insert_one (tree d)) (sight H' z ∷ earlier) r) (sym is.0) (failed_serves (insert_one (tree d)) earlier H H' at before count r way.0 longer here is.1)
+  failed_leads d earlier H H' at before count m.NoMemory way longer here is = absurd is
+
   -- a listing at a point where the collection doesn't live
   pub gone_stops : (last : Option Tree) (H H' : List Entry) (at : ℕ) (item : Item) (reply : Reply) → H' ≡ H → at ≡ length H → IsLooked item at last None [] → IsGone coll (replay base H)
       → Refuses (errors.no_collection coll) reply → StopsSo base coll k H' last item reply
@@ -179,6 +207,19 @@ module _ (base : Base) (coll : Name) (k : ℕ) where
   pub fault_stops : (last : Option Tree) (H H' : List Entry) (at before count : ℕ) (reply : Reply) → H' ≡ H ++ Failed k before count ∷ [] → at ≡ length H
       → Refuses (errors.store_fault before count) reply → StopsSo base coll k H' last (Faulted at before count) reply
   fault_stops last H H' at before count reply longer here refuses = (errors.store_fault before count, (saw_entry H H' (Failed k before count) at longer here, refl), refuses)
+
+  pub gone_sees : (last : Option Tree) (H H' : List Entry) (f : FilterTree) (at : ℕ) (o : Glance) → H' ≡ H → at ≡ length H → IsGone coll (replay base H)
+      → ShowsNothing at last (Refuses (errors.no_collection coll)) o → Sees base coll k H' f last o
+  gone_sees last H H' f at (g.Shown item rs up) same here gone is = absurd is
+  gone_sees last H H' f at (g.Ended item r) same here gone is = gone_stops last H H' at item r same here is.0 gone is.1
+  gone_sees last H H' f at g.NoMemory same here gone is = absurd is
+
+  pub fault_sees : (last : Option Tree) (H H' : List Entry) (f : FilterTree) (at before count : ℕ) (o : Glance) → H' ≡ H ++ Failed k before count ∷ [] → at ≡ length H
+      → StopsWith (Faulted at before count) (Refuses (errors.store_fault before count)) o → Sees base coll k H' f last o
+  fault_sees last H H' f at before count (g.Shown item rs up) longer here is = absurd is
+  fault_sees last H H' f at before count (g.Ended item r) longer here is =
+      subst (λ (i : Item). StopsSo base coll k H' last i r) (sym is.0) (fault_stops last H H' at before count r longer here is.1)
+  fault_sees last H H' f at before count g.NoMemory longer here is = absurd is
 
   -- ---- listings
 

@@ -122,6 +122,24 @@ EndsSo item P (m.Goes i w) = ⊥
 EndsSo item P (m.Ends i reply) = (i ≡ item) × P reply
 EndsSo item P m.NoMemory = ⊥
 
+-- the step ends with a look of this interval that shows nothing, and such a reply
+abbrev pub EndsMarked : ℕ → Option Tree → Option Tree → (Reply → Type 0) → Moved → Type 0
+EndsMarked at after up P (m.Goes i w) = ⊥
+EndsMarked at after up P (m.Ends i reply) = IsLooked i at after up [] × P reply
+EndsMarked at after up P m.NoMemory = ⊥
+
+-- nothing was there to look at, and the reply is such
+abbrev pub ShowsNothing : ℕ → Option Tree → (Reply → Type 0) → Glance → Type 0
+ShowsNothing at after P (g.Shown item rows up) = ⊥
+ShowsNothing at after P (g.Ended item reply) = IsLooked item at after None [] × P reply
+ShowsNothing at after P g.NoMemory = ⊥
+
+-- there is this item in place of a look, and the reply is such
+abbrev pub StopsWith : Item → (Reply → Type 0) → Glance → Type 0
+StopsWith item P (g.Shown i rows up) = ⊥
+StopsWith item P (g.Ended i reply) = (i ≡ item) × P reply
+StopsWith item P g.NoMemory = ⊥
+
 -- what a select makes of a page: the first row is taken, or the next page is wanted, or nothing was there
 abbrev pub Selects : Wanted → Item → List Version → Option Tree → Moved → Type 0
 Selects w item (v ∷ page) up o = EndsSo item (Finds (Some v.doc)) o

@@ -16,7 +16,8 @@ ghost use Rattle.store_core.specs.Growth.{Grows};
 ghost use Rattle.cmd_tasks.specs.Pages.{up_of, pair_of};
 ghost use Rattle.cmd_tasks.specs.Rank.{IsKeyed};
 ghost use Rattle.cmd_tasks.specs.Wanted.{IsWanted};
-ghost use Rattle.cmd_tasks.specs.Moves.{ShowsRows, Glances, Sees, GoesUp, Refuses};
+ghost use Rattle.cmd_tasks.specs.Moves.{ShowsRows, ShowsNothing, StopsWith, Glances, Sees, GoesUp, Refuses};
+ghost use Rattle.cmd_tasks.specs.declared.trace.Item.TheVariants.{Faulted};
 
 use crate::trace::Item;
 use crate::work::{Glance, Wanted, is_match};
@@ -24,7 +25,7 @@ use col_keeper::Keeper;
 use doc_paths::CollName;
 use filter_plan::Plan;
 use filter_tree::Filter;
-use json_tree::{DocId, TreeFault, Value, key_bytes_are_ordered};
+use json_tree::{DocId, TreeFault, key_bytes_are_ordered};
 use reply_env::{ErrorItem, Reply, ReplyFault, no_collection, refusal, store_fault};
 use shred_cols::Row;
 use std::alloc::{AllocError, Global};
@@ -97,9 +98,7 @@ fn copy_id(alloc: Global, id: &Option<DocId>) -> Result<Option<DocId>, TreeFault
 fn is_keyed(id: &DocId)
     ensures { IsKeyed id.now }
 {
-    if let Value::Text(text) = id.value() {
-        let _bytes = text.as_str().as_bytes();
-    }
+    id.value();
 }
 
 fn are_keyed(ids: &Option<DocId>)
@@ -107,6 +106,19 @@ fn are_keyed(ids: &Option<DocId>)
 {
     if let Some(id) = ids {
         is_keyed(id);
+    }
+}
+
+/// The end of a page lies behind its start.
+fn rises(after: &Option<DocId>, page: &[Row], end: bool)
+    requires { IsPage after.now 64 page.now end }
+    ensures { GoesUp after.now (up_of end page.now) }
+{
+    are_keyed(after);
+    key_bytes_are_ordered();
+    match page.last() {
+        Some(row) => is_keyed(row.id()),
+        None => {}
     }
 }
 
@@ -120,16 +132,9 @@ fn shown(
     page: Vec<Row>,
     end: bool,
 ) -> Glance
-    requires wanted { IsAskableFilter (filter_tree wanted.now) × IsPlanOf (filter_tree wanted.now) plan.now }
-    requires page { IsPage after 64 page.items end }
-    ensures shows { ShowsRows (filter_tree wanted.now) at after page.items end result }
-    ensures rises { GoesUp after (up_of end page.items) }
+    requires { IsAskableFilter (filter_tree wanted.now) × IsPlanOf (filter_tree wanted.now) plan.now }
+    ensures { ShowsRows (filter_tree wanted.now) at after page.items end result }
 {
-    are_keyed(&after);
-    key_bytes_are_ordered();
-    if let Some(row) = page.last() {
-        is_keyed(row.id());
-    }
     let Ok(up_to) = last_id(alloc, &page, end) else {
         return Glance::NoMemory;
     };
@@ -150,6 +155,29 @@ fn shown(
         },
         Err(_) => Glance::NoMemory,
     }
+}
+
+/// No page, since the collection doesn't live.
+fn gone(alloc: Global, at: u64, after: Option<DocId>, coll: &CollName) -> Glance
+    ensures { ShowsNothing at after (Refuses (errors.no_collection coll.now)) result }
+{
+    let reply = refuse(alloc, no_collection(alloc, coll.text()));
+    let item = Item::Looked {
+        at,
+        after,
+        up_to: None,
+        shown: Vec::new(alloc),
+    };
+    Glance::Ended { item, reply }
+}
+
+/// No page, since the call failed.
+fn faulted(alloc: Global, at: u64, before: u64, after: u64) -> Glance
+    ensures { StopsWith (Faulted at before after) (Refuses (errors.store_fault before after)) result }
+{
+    let reply = refuse(alloc, store_fault(alloc, before, after));
+    let item = Item::Faulted { at, before, after };
+    Glance::Ended { item, reply }
 }
 
 /// The next page of a listing: one call of the store.
@@ -179,20 +207,12 @@ pub(crate) fn glance<K: Keeper>(
         return Glance::NoMemory;
     };
     match store.page(alloc, Some(by), coll, plan.probe(), last.as_ref()) {
-        Paged::Rows { at, rows, end } => shown(alloc, &wanted.filter, plan, at, after, rows, end),
-        Paged::NoCollection { at } => Glance::Ended {
-            item: Item::Looked {
-                at,
-                after,
-                up_to: None,
-                shown: Vec::new(alloc),
-            },
-            reply: refuse(alloc, no_collection(alloc, coll.text())),
-        },
-        Paged::Fault { at, before, after } => Glance::Ended {
-            item: Item::Faulted { at, before, after },
-            reply: refuse(alloc, store_fault(alloc, before, after)),
-        },
+        Paged::Rows { at, rows, end } => {
+            rises(last, &rows, end);
+            shown(alloc, &wanted.filter, plan, at, after, rows, end)
+        }
+        Paged::NoCollection { at } => gone(alloc, at, after, coll),
+        Paged::Fault { at, before, after } => faulted(alloc, at, before, after),
         Paged::NoMemory => Glance::NoMemory,
     }
 }

@@ -11,8 +11,9 @@ ghost use Rattle.store_core.specs.Growth.{Grows};
 ghost use Rattle.cmd_grammar.specs.Commands.{IsStorable};
 ghost use Rattle.cmd_tasks.specs.Served.{counted, TellsFound, TellsInserted};
 ghost use Rattle.cmd_tasks.specs.Wanted.{IsWanted};
-ghost use Rattle.cmd_tasks.specs.Moves.{Steps, Promises, Selects, count_to, IsLooked, Finds, Refuses, EndsSo};
-ghost use Rattle.cmd_tasks.specs.declared.trace.Item.TheVariants.{Lost};
+ghost use Rattle.cmd_tasks.specs.Moves.{Steps, Promises, Selects, count_to, IsLooked, Finds, Refuses, EndsSo, EndsMarked};
+ghost use Rattle.cmd_tasks.specs.declared.trace.Item.TheVariants.{Lost, Faulted};
+ghost use Rattle.reply_env.specs.declared.reply.ErrorItem.{ErrorItem as Error};
 
 use crate::glance::{glance, refuse};
 use crate::trace::Item;
@@ -20,7 +21,7 @@ use crate::work::{Glance, Moved, State, Wanted};
 use col_keeper::{Keeper, limits_bound_ids};
 use doc_paths::CollName;
 use json_tree::{Doc, DocId, TreeFault, Value};
-use reply_env::{Reply, already_exists, no_collection, store_fault, versions_spent};
+use reply_env::{ErrorItem, Reply, ReplyFault, already_exists, no_collection, store_fault, versions_spent};
 use shred_cols::Row;
 use std::alloc::Global;
 use store_core::{Change, Store, WriteOutcome};
@@ -66,6 +67,30 @@ fn taken(alloc: Global, at: u64, found: Option<u64>, id: &DocId) -> Moved
     }
 }
 
+/// Nothing was there to be written to, or no number was left to write with.
+fn marked(
+    alloc: Global,
+    at: u64,
+    key: DocId,
+    twin: DocId,
+    error: Result<ErrorItem, ReplyFault>,
+) -> Moved
+    ensures { (e : Error) → IfOk error (λ x. x ≡ e) → EndsMarked at (Some key) (Some twin) (Refuses e) result }
+{
+    let item = mark(alloc, at, key, twin);
+    let reply = refuse(alloc, error);
+    Moved::Ends { item, reply }
+}
+
+/// The call failed.
+fn failed(alloc: Global, at: u64, before: u64, after: u64) -> Moved
+    ensures { EndsSo (Faulted at before after) (Refuses (errors.store_fault before after)) result }
+{
+    let reply = refuse(alloc, store_fault(alloc, before, after));
+    let item = Item::Faulted { at, before, after };
+    Moved::Ends { item, reply }
+}
+
 /// The insertion of a document whose id was copied before.
 fn insert_doc<K: Keeper>(
     alloc: Global,
@@ -95,18 +120,11 @@ fn insert_doc<K: Keeper>(
             reply: Reply::Inserted { ids: reply },
         },
         WriteOutcome::Lost { at, found } => taken(alloc, at, found, &key),
-        WriteOutcome::NoCollection { at } => Moved::Ends {
-            item: mark(alloc, at, key, twin),
-            reply: refuse(alloc, no_collection(alloc, coll.text())),
-        },
-        WriteOutcome::VersionsSpent { at } => Moved::Ends {
-            item: mark(alloc, at, key, twin),
-            reply: refuse(alloc, versions_spent(alloc)),
-        },
-        WriteOutcome::Fault { at, before, after } => Moved::Ends {
-            item: Item::Faulted { at, before, after },
-            reply: refuse(alloc, store_fault(alloc, before, after)),
-        },
+        WriteOutcome::NoCollection { at } => {
+            marked(alloc, at, key, twin, no_collection(alloc, coll.text()))
+        }
+        WriteOutcome::VersionsSpent { at } => marked(alloc, at, key, twin, versions_spent(alloc)),
+        WriteOutcome::Fault { at, before, after } => failed(alloc, at, before, after),
         WriteOutcome::NoMemory => Moved::NoMemory,
     }
 }

@@ -3,7 +3,7 @@ use Rattle.std.specs.Prelude.{◌≡◌, ◌≢◌, ◌↔◌, ℕ, ◌-◌, ◌
 use Rattle.outside_io.specs.Causes.{Rose}
 use Rattle.json_tree.specs.Tree.{Tree}
 use Rattle.shred_cols.specs.Row.{Version, id_of}
-use Rattle.shred_cols.specs.Rows.{Rows, keyed}
+use Rattle.shred_cols.specs.Rows.{Rows, keyed, ascends}
 use Rattle.shred_cols.specs.declared.probe.Probe.{Probe}
 use Rattle.col_keeper.specs.Tables.{Name, IsShort, names_of, rows_in}
 use Rattle.col_keeper.specs.Pages.{IsPage, IsEnd, page_of}
@@ -75,7 +75,7 @@ module _ {K : Type 0} (failed : K → ℕ) where
   abbrev pub Pages : Option ℕ → Name → Probe → Option Tree → Stored K → Stored K → Paged → Type 0
   Pages by coll probe after old new (p.Rows at page end) =
       Stays old new at × IsPage after 64 page.items end
-      × AtState old (λ s. (rows : Rows) × (rows_in coll s.collections ≡ Some rows) × ShowsPage probe after rows page.items end)
+      × AtState old (λ s. (rows : Rows) × (rows_in coll s.collections ≡ Some rows) × (ascends rows ≡ true) × ShowsPage probe after rows page.items end)
   Pages by coll probe after old new (p.NoCollection at) = Stays old new at × AtState old (IsGone coll)
   Pages by coll probe after old new (p.Fault at before count) = Fails by old new at before count
   Pages by coll probe after old new p.NoMemory = new.journal ≡ old.journal

@@ -23,5 +23,5 @@ pub returns-in-Ok-clause-answers : goal.returns-in-Ok-clause-answers
 returns-in-Ok-clause-answers g c = (
   (search rules, search rules),
   search rules,
-  rw (← c.self.view_is) (λ b e. page_shows _ _ _ _ (c.in-Ok.ensures.answers _ (told_at _ _ _ _ _ _ c.self.invariant.0 b e))),
+  rw (← c.self.view_is) (λ b e. let told = told_at _ _ _ _ _ _ c.self.invariant.0 b e in page_shows _ _ _ _ _ (c.faults-before.ensures.sound _ told) (c.in-Ok.ensures.answers _ told)),
 )
