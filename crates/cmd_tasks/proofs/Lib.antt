@@ -8,3 +8,4 @@ mod Glances
 mod Requests
 mod Standing
 mod Running
+mod Opening

@@ -55,6 +55,21 @@ fn ids_of(alloc: Global, doc: &Doc) -> Result<Ids, TreeFault>
     Ok(Ids { key, twin, reply })
 }
 
+/// A document that is to be inserted.
+struct Insertion {
+    doc: Doc,
+    ids: Ids,
+}
+
+fn prepared(alloc: Global, document: Value) -> Result<Insertion, TreeFault>
+    requires { IsStorable (tree document) }
+    ensures { IfOk result (λ i. (i.doc ≡ tree document) × (i.ids.key ≡ id_of i.doc) × (i.ids.twin ≡ id_of i.doc) × (i.ids.reply.items ≡ id_of i.doc ∷ [])) }
+{
+    let doc = Doc::of_value(alloc, document)?;
+    let ids = ids_of(alloc, &doc)?;
+    Ok(Insertion { doc, ids })
+}
+
 /// The id is taken.
 fn taken(alloc: Global, at: u64, found: Option<u64>, id: &DocId) -> Moved
     requires { IsSome found }
@@ -97,14 +112,13 @@ fn insert_doc<K: Keeper>(
     store: &mut Store<K>,
     by: u64,
     coll: &CollName,
-    doc: Doc,
-    ids: Ids,
+    insertion: Insertion,
 ) -> Moved
     requires known { by < opened_in store.old.journal }
-    requires doc { IsStorable doc }
-    requires ids { (ids.key ≡ id_of doc) × (ids.twin ≡ id_of doc) × (ids.reply.items ≡ id_of doc ∷ []) }
-    ensures steps { (d : Value) → tree d ≡ doc → Steps by (K.failed store.old.keeper) (K.failed store.new.keeper) (State.Inserting d) store.old.journal store.new.journal result }
-    ensures leads { (d : Value) → tree d ≡ doc → Promises store.old.start coll.now by store.old.journal store.new.journal (State.Inserting d) result }
+    requires doc { IsStorable insertion.doc }
+    requires ids { (insertion.ids.key ≡ id_of insertion.doc) × (insertion.ids.twin ≡ id_of insertion.doc) × (insertion.ids.reply.items ≡ id_of insertion.doc ∷ []) }
+    ensures steps { (d : Value) → tree d ≡ insertion.doc → Steps by (K.failed store.old.keeper) (K.failed store.new.keeper) (State.Inserting d) store.old.journal store.new.journal result }
+    ensures leads { (d : Value) → tree d ≡ insertion.doc → Promises store.old.start coll.now by store.old.journal store.new.journal (State.Inserting d) result }
     ensures base { SameBase store.old store.new }
     ensures grows { Grows (Some by) store.old.journal store.new.journal }
     ensures faults { K.failed store.old.keeper ≤ K.failed store.new.keeper }
@@ -113,6 +127,7 @@ fn insert_doc<K: Keeper>(
 {
     limits_bound_ids();
     store.journal_len();
+    let Insertion { doc, ids } = insertion;
     let Ids { key, twin, reply } = ids;
     match store.write(alloc, by, coll, &key, None, Change::Insert { doc }) {
         WriteOutcome::Written { at, tx: _ } => Moved::Ends {
@@ -148,13 +163,10 @@ pub(crate) fn insert<K: Keeper>(
     ensures lawful { IsLawful store.new }
 {
     store.journal_len();
-    let Ok(doc) = Doc::of_value(alloc, document) else {
-        return Moved::NoMemory;
-    };
-    let Ok(ids) = ids_of(alloc, &doc) else {
-        return Moved::NoMemory;
-    };
-    insert_doc(alloc, store, by, coll, doc, ids)
+    match prepared(alloc, document) {
+        Ok(insertion) => insert_doc(alloc, store, by, coll, insertion),
+        Err(_) => Moved::NoMemory,
+    }
 }
 
 /// The reply that shows a row's document.

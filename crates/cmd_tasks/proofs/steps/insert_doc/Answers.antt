@@ -18,7 +18,7 @@ use Rattle.cmd_tasks.proofs.Requests.{insert_serves, lost_leads, taken_steps, fo
 use Rattle.cmd_tasks.proofs.steps.insert_doc.Goals as goal
 
 pub write-requires-clause-short : goal.write-requires-clause-short
-write-requires-clause-short g c = subst (λ (i : Tree). IsShort i) (sym c.requires.ids.0) (c.limits_bound_ids.ensures c.args.doc c.requires.doc.document c.requires.doc.limits)
+write-requires-clause-short g c = subst (λ (i : Tree). IsShort i) (sym c.requires.ids.0) (c.limits_bound_ids.ensures c.args.insertion.doc c.requires.doc.document c.requires.doc.limits)
 
 pub write-requires-clause-new : goal.write-requires-clause-new
 write-requires-clause-new g c = (sym c.requires.ids.0, c.requires.doc.limits)
@@ -31,8 +31,8 @@ returns-in-Written-clause-leads g c = λ d d_is base told_base trace placed way.
     let earlier = sights c.args.store.now.journal trace in
     let told = c.in-Written.ensures.answers in
     subst (λ (t : Tree). Serves base c.args.coll.now c.args.by (insert_one t) _ _) (sym d_is)
-    (insert_serves base c.args.coll.now c.args.by c.args.doc earlier _ _ c.in-Written.at c.in-Written.tx _ (subst (λ (t : Tree). IsBegun base c.args.coll.now c.args.by (insert_one t) earlier) d_is way.0)
-    (subst (λ (i : Tree). c.write.new.store.journal ≡ c.args.store.now.journal ++ Changed c.args.by c.args.coll.now i (Insert c.args.doc) None c.in-Written.tx ∷ []) c.requires.ids.0 told.0.1) told.0.0
+    (insert_serves base c.args.coll.now c.args.by c.args.insertion.doc earlier _ _ c.in-Written.at c.in-Written.tx _ (subst (λ (t : Tree). IsBegun base c.args.coll.now c.args.by (insert_one t) earlier) d_is way.0)
+    (subst (λ (i : Tree). c.write.new.store.journal ≡ c.args.store.now.journal ++ Changed c.args.by c.args.coll.now i (Insert c.args.insertion.doc) None c.in-Written.tx ∷ []) c.requires.ids.0 told.0.1) told.0.0
     (subst (λ (i : Tree). number_at (replay base c.args.store.now.journal) c.args.coll.now i ≡ None) c.requires.ids.0 (told.2 base told_base).1) c.requires.ids.2)
 
 pub taken-requires : goal.taken-requires
@@ -42,14 +42,14 @@ pub returns-in-Lost-clause-steps : goal.returns-in-Lost-clause-steps
 returns-in-Lost-clause-steps g c = λ d d_is.
     let told = c.in-Lost.ensures.answers in
     let f = found_one c.in-Lost.found told.1 in
-    taken_steps c.args.by _ _ _ _ (Inserting d) c.in-Lost.at f.0 (Refuses (errors.already_exists c.args.ids.key f.0)) c.taken.result told.0.1 told.0.0 (c.taken.ensures f.0 f.1)
+    taken_steps c.args.by _ _ _ _ (Inserting d) c.in-Lost.at f.0 (Refuses (errors.already_exists c.args.insertion.ids.key f.0)) c.taken.result told.0.1 told.0.0 (c.taken.ensures f.0 f.1)
 
 pub returns-in-Lost-clause-leads : goal.returns-in-Lost-clause-leads
 returns-in-Lost-clause-leads g c = λ d d_is base told_base trace placed way.
     let earlier = sights c.args.store.now.journal trace in
     let told = c.in-Lost.ensures.answers in
     let f = found_one c.in-Lost.found told.1 in
-    let key_is : c.args.ids.key ≡ id_of (tree d) = c.requires.ids.0 ∙ ap id_of (sym d_is) in
+    let key_is : c.args.insertion.ids.key ≡ id_of (tree d) = c.requires.ids.0 ∙ ap id_of (sym d_is) in
     lost_leads base c.args.coll.now c.args.by d earlier c.args.store.now.journal c.write.new.store.journal c.in-Lost.at f.0 c.in-Lost.found c.taken.result way told.0.1 told.0.0 f.1
     (subst (λ (i : Tree). number_at (replay base c.args.store.now.journal) c.args.coll.now i ≡ c.in-Lost.found) key_is (told.2 base told_base).1)
     (subst (λ (i : Tree). EndsSo (Lost c.in-Lost.at 0 (Some f.0)) (Refuses (errors.already_exists i f.0)) c.taken.result) key_is (c.taken.ensures f.0 f.1))
@@ -57,25 +57,25 @@ returns-in-Lost-clause-leads g c = λ d d_is base told_base trace placed way.
 pub returns-in-NoCollection-clause-steps : goal.returns-in-NoCollection-clause-steps
 returns-in-NoCollection-clause-steps g c = λ d d_is.
     let told = c.in-NoCollection.ensures.answers in
-    marked_steps c.args.by _ _ _ _ (Inserting d) c.in-NoCollection.at (Some c.args.ids.key) (Some c.args.ids.twin) (Refuses (errors.no_collection c.args.coll.now)) c.marked.result told.0.1 told.0.0 (c.marked.ensures (errors.no_collection c.args.coll.now) (search rules))
+    marked_steps c.args.by _ _ _ _ (Inserting d) c.in-NoCollection.at (Some c.args.insertion.ids.key) (Some c.args.insertion.ids.twin) (Refuses (errors.no_collection c.args.coll.now)) c.marked.result told.0.1 told.0.0 (c.marked.ensures (errors.no_collection c.args.coll.now) (search rules))
 
 pub returns-in-NoCollection-clause-leads : goal.returns-in-NoCollection-clause-leads
 returns-in-NoCollection-clause-leads g c = λ d d_is base told_base trace placed way.
     let earlier = sights c.args.store.now.journal trace in
     let told = c.in-NoCollection.ensures.answers in
-    marked_leads base c.args.coll.now c.args.by d earlier c.args.store.now.journal c.write.new.store.journal c.in-NoCollection.at c.args.ids.key c.args.ids.twin (errors.no_collection c.args.coll.now) c.marked.result
+    marked_leads base c.args.coll.now c.args.by d earlier c.args.store.now.journal c.write.new.store.journal c.in-NoCollection.at c.args.insertion.ids.key c.args.insertion.ids.twin (errors.no_collection c.args.coll.now) c.marked.result
     (c.requires.ids.0 ∙ ap id_of (sym d_is)) (c.requires.ids.1 ∙ ap id_of (sym d_is)) way told.0.1 told.0.0 (inl (told.1 base told_base, refl)) (c.marked.ensures (errors.no_collection c.args.coll.now) (search rules))
 
 pub returns-in-VersionsSpent-clause-steps : goal.returns-in-VersionsSpent-clause-steps
 returns-in-VersionsSpent-clause-steps g c = λ d d_is.
     let told = c.in-VersionsSpent.ensures.answers in
-    marked_steps c.args.by _ _ _ _ (Inserting d) c.in-VersionsSpent.at (Some c.args.ids.key) (Some c.args.ids.twin) (Refuses errors.versions_spent) c.marked-in-VersionsSpent.result told.0.1 told.0.0 (c.marked-in-VersionsSpent.ensures errors.versions_spent c.versions_spent.ensures)
+    marked_steps c.args.by _ _ _ _ (Inserting d) c.in-VersionsSpent.at (Some c.args.insertion.ids.key) (Some c.args.insertion.ids.twin) (Refuses errors.versions_spent) c.marked-in-VersionsSpent.result told.0.1 told.0.0 (c.marked-in-VersionsSpent.ensures errors.versions_spent c.versions_spent.ensures)
 
 pub returns-in-VersionsSpent-clause-leads : goal.returns-in-VersionsSpent-clause-leads
 returns-in-VersionsSpent-clause-leads g c = λ d d_is base told_base trace placed way.
     let earlier = sights c.args.store.now.journal trace in
     let told = c.in-VersionsSpent.ensures.answers in
-    marked_leads base c.args.coll.now c.args.by d earlier c.args.store.now.journal c.write.new.store.journal c.in-VersionsSpent.at c.args.ids.key c.args.ids.twin errors.versions_spent c.marked-in-VersionsSpent.result
+    marked_leads base c.args.coll.now c.args.by d earlier c.args.store.now.journal c.write.new.store.journal c.in-VersionsSpent.at c.args.insertion.ids.key c.args.insertion.ids.twin errors.versions_spent c.marked-in-VersionsSpent.result
     (c.requires.ids.0 ∙ ap id_of (sym d_is)) (c.requires.ids.1 ∙ ap id_of (sym d_is)) way told.0.1 told.0.0 (inr (c.journal_len.ensures.next base told_base ∙ told.1, refl)) (c.marked-in-VersionsSpent.ensures errors.versions_spent c.versions_spent.ensures)
 
 pub returns-in-Fault-clause-steps : goal.returns-in-Fault-clause-steps
