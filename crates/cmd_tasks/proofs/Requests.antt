@@ -1,6 +1,6 @@
 -- How each command goes on, or is answered.
 use Rattle.std.proofs.Common.{◌≡◌, ◌≢◌, ℕ, ◌+◌, ◌<◌, ◌≤◌, List, [], ◌∷◌, ◌++◌, map, take, length, true, false, ◌-◌, ◌^◌, Option, Some, None, refl, sym, ap, ◌∙◌, subst, arith, inl, inr, length-append, Vec, Global, leb, ◌⊎◌, ⊎_elim}
-use Rattle.std.specs.Prelude.{nat_le, if◌then◌else◌, IfSome}
+use Rattle.std.specs.Prelude.{nat_le, if◌then◌else◌, IfSome, slice_get}
 use Rattle.std.specs.Option.{option_map}
 use Rattle.std.proofs.lemmas.List.{length-map}
 use Rattle.std.proofs.lemmas.Bool.{leb-true}
@@ -52,6 +52,19 @@ select_steps k low high H H' w last item page [] None (m.Goes i s) wanted h is =
 select_steps k low high H H' w last item page [] None (m.Ends i r) wanted h is = subst (λ z. Steps k low high (Selecting w last) H H' (m.Ends z r)) (sym is.0) h.0
 select_steps k low high H H' w last item page [] None m.NoMemory wanted h is = absurd is
 select_steps k low high H H' w last item page [] (Some u) o wanted h is = subst (Steps k low high (Selecting w last) H H') (sym is) (h.0, refl, wanted, h.1)
+
+same_some : {A : Type 0} (a b : A) → Some a ≡ Some b → a ≡ b
+same_some a b e = cc
+
+-- a page with a first row
+pub first_taken : (w : Wanted) (item : Item) (rows : List Version) (up : Option Tree) (o : Moved) (v : Version) → slice_get rows 0 ≡ Some v → EndsSo item (Finds (Some v.doc)) o → Selects w item rows up o
+first_taken w item [] up o v e h = cc
+first_taken w item (x ∷ page) up o v e h = subst (λ (y : Version). EndsSo item (Finds (Some y.doc)) o) (sym (same_some x v e)) h
+
+-- a page with none
+pub none_taken : (w : Wanted) (item : Item) (rows : List Version) (up : Option Tree) (o : Moved) → slice_get rows 0 ≡ None → Selects w item [] up o → Selects w item rows up o
+none_taken w item [] up o e h = h
+none_taken w item (x ∷ page) up o e h = cc
 
 few : (n : ℕ) → leb 1001 n ≡ false → ((leb 1001 n ≡ true) × (1001 ≤ n)) ⊎ ((leb 1001 n ≡ false) × (n < 1001)) → n < 1001
 few n e z = ⊎_elim (λ q. absurd (no (sym e ∙ q.0))) (λ q. q.1) z

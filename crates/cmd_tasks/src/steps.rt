@@ -179,28 +179,35 @@ fn found(alloc: Global, row: &Row) -> Reply
     }
 }
 
+/// What a select makes of a page on which nothing matches.
+fn passed_over(wanted: Wanted, item: Item, last: Option<DocId>) -> Moved
+    ensures { Selects wanted item [] last result }
+{
+    match last {
+        Some(id) => Moved::Goes {
+            item,
+            state: State::Selecting {
+                wanted,
+                last: Some(id),
+            },
+        },
+        None => Moved::Ends {
+            item,
+            reply: Reply::Found { view: None },
+        },
+    }
+}
+
 /// What a select makes of a page.
 fn selected(alloc: Global, wanted: Wanted, item: Item, rows: &[Row], last: Option<DocId>) -> Moved
     ensures { Selects wanted item rows.now last result }
 {
     match rows.first() {
-        Some(row) => Moved::Ends {
-            item,
-            reply: found(alloc, row),
-        },
-        None => match last {
-            Some(id) => Moved::Goes {
-                item,
-                state: State::Selecting {
-                    wanted,
-                    last: Some(id),
-                },
-            },
-            None => Moved::Ends {
-                item,
-                reply: Reply::Found { view: None },
-            },
-        },
+        Some(row) => {
+            let reply = found(alloc, row);
+            Moved::Ends { item, reply }
+        }
+        None => passed_over(wanted, item, last),
     }
 }
 
