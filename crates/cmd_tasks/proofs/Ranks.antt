@@ -102,7 +102,7 @@ encoded_bytes [] h = tt
 encoded_bytes (c ∷ cs) h = let p = both_of (scalar c) (scalars cs) h in bytes_append (encode c) (encodes cs) (encode_bytes c (below_all c p.0)) (encoded_bytes cs p.1)
 
 text_bytes : (t : List ℕ) → IsUtf8 t → AreBytes t
-text_bytes t h = subst AreBytes h.1.1 (encoded_bytes h.0 h.1.0)
+text_bytes t h = subst (λ (bs : List ℕ). AreBytes bs) h.1.1 (encoded_bytes h.0 h.1.0)
 
 -- ---- the bytes of a number
 
@@ -145,9 +145,9 @@ last_has P (x ∷ y ∷ xs) v e h = last_has P (y ∷ xs) v e h.1
 
 pub page_rises : (after : Option Tree) (page : List Version) (end : Bool) (v : Version) → IfSome after IsKeyed → IsKeyed (id_of v.doc) → last_of page ≡ Some v → IsPage after 64 page end → IsOrdered → GoesUp after (up_of end page)
 page_rises after page true v k w l p order = tt
-page_rises after page false v k w l p order = subst (λ (o : Option Version). GoesUp after (option_map (λ x. id_of x.doc) o)) (sym l)
+page_rises after page false v k w l p order = subst (λ (o : Option Version). GoesUp after (option_map (λ (x : Version). id_of x.doc) o)) (sym l)
     (rank_falls_by after (id_of v.doc) k w (last_has (λ x. IsShort (id_of x.doc)) page v l p.short) (last_has (λ x. is_after after (id_of x.doc) ≡ true) page v l p.above) order)
 
 pub none_rises : (after : Option Tree) (page : List Version) (end : Bool) → last_of page ≡ None → GoesUp after (up_of end page)
 none_rises after page true l = tt
-none_rises after page false l = subst (λ (o : Option Version). GoesUp after (option_map (λ x. id_of x.doc) o)) (sym l) tt
+none_rises after page false l = subst (λ (o : Option Version). GoesUp after (option_map (λ (x : Version). id_of x.doc) o)) (sym l) tt

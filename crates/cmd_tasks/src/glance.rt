@@ -123,6 +123,7 @@ fn rises(after: &Option<DocId>, page: &[Row], end: bool)
 }
 
 /// The page as a look that was made at this point.
+#[tactic(none)]
 fn shown(
     alloc: Global,
     wanted: &Filter,

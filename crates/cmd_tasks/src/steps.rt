@@ -199,6 +199,7 @@ fn passed_over(wanted: Wanted, item: Item, last: Option<DocId>) -> Moved
 }
 
 /// What a select makes of a page.
+#[tactic(none)]
 fn selected(alloc: Global, wanted: Wanted, item: Item, rows: &[Row], last: Option<DocId>) -> Moved
     ensures { Selects wanted item rows.now last result }
 {

@@ -1,4 +1,4 @@
-use Rattle.std.proofs.Common.{rules, ◌≡◌, ◌++◌, ◌∷◌, [], List, refl, sym, ap, subst, inl, inr, Some, None, ◌∙◌}
+use Rattle.std.proofs.Common.{rules, ◌≡◌, ◌++◌, ◌∷◌, [], List, ℕ, Option, IsSome, refl, sym, ap, subst, inl, inr, Some, None, ◌∙◌}
 use Rattle.json_tree.specs.Tree.{Tree}
 use Rattle.json_tree.specs.View.{tree}
 use Rattle.shred_cols.specs.Row.{id_of}
@@ -36,7 +36,7 @@ returns-in-Written-clause-leads g c = λ d d_is base told_base trace placed way.
     (subst (λ (i : Tree). number_at (replay base c.args.store.now.journal) c.args.coll.now i ≡ None) c.requires.ids.0 (told.2 base told_base).1) c.requires.ids.2)
 
 pub taken-requires : goal.taken-requires
-taken-requires g c = let f = found_one c.in-Lost.found c.in-Lost.ensures.answers.1 in rw f.1 refl
+taken-requires g c = let f = found_one c.in-Lost.found c.in-Lost.ensures.answers.1 in subst (λ (o : Option ℕ). IsSome o) (sym f.1) refl
 
 pub returns-in-Lost-clause-steps : goal.returns-in-Lost-clause-steps
 returns-in-Lost-clause-steps g c = λ d d_is.
