@@ -1,15 +1,1 @@
-pub mod Cuts
-pub mod Places
-pub mod WordLists
-pub mod Texts
-pub mod Commands
-pub mod Wanting
-pub mod One
-pub mod Served
-pub mod Waits
-pub mod HasLines
-pub mod Whole
-pub mod Sent
 pub mod Notes
-pub mod Histories
-pub mod Passed

@@ -1,8 +1,8 @@
 -- The note of a status.
 use Rattle.std.proofs.Common.{◌≡◌, ℕ, refl}
 use Rattle.dapi.specs.Note.{status_of, note_of, note_at}
-use Rattle.dapi.specs.declared.run.RunHow.{RunHow}
-use Rattle.dapi.specs.declared.run.RunHow.TheVariants.{Done, ReadFault, WriteFault, TooLong, WrongLine, NoMemory}
+use Rattle.api_serve.specs.declared.run.RunHow.{RunHow}
+use Rattle.api_serve.specs.declared.run.RunHow.TheVariants.{Done, ReadFault, WriteFault, TooLong, WrongLine, NoMemory}
 
 -- every status but that of a wrong line has one note
 pub noted_by : (how : RunHow) → (status_of how ≡ 6 → ⊥) → note_of how ≡ note_at (status_of how)

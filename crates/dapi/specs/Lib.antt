@@ -1,15 +1,4 @@
-pub mod Separated
-pub mod Lines
-pub mod Request
 pub mod Words
-pub mod Asked
-pub mod Document
-pub mod Reply
-pub mod Answer
-pub mod Run
-pub mod Ends
-pub mod Piece
-pub mod Sent
+pub mod Chosen
 pub mod Note
-pub mod Rows
-pub mod Insert
+pub mod Top

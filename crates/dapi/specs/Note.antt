@@ -2,8 +2,8 @@
 use Rattle.std.specs.Prelude.{◌≡◌, ◌⊎◌, ℕ, List, [], ◌∷◌, ◌++◌, codes, decimal, take, Bool, ◌==◌, if◌then◌else◌}
 use Rattle.std.specs.List.{list_any}
 use Rattle.outside_io.specs.Told.{Writing, Takes, IsHindered}
-use Rattle.dapi.specs.declared.run.RunHow.{RunHow}
-use Rattle.dapi.specs.declared.run.RunHow.TheVariants as ends
+use Rattle.api_serve.specs.declared.run.RunHow.{RunHow}
+use Rattle.api_serve.specs.declared.run.RunHow.TheVariants as ends
 use Rattle.dapi.specs.declared.words.WordFault.{WordFault}
 use Rattle.dapi.specs.declared.words.WordFault.TheVariants as faults
 
@@ -38,7 +38,7 @@ abbrev pub word_note : WordFault → List ℕ
 word_note faults.Usage = usage_note
 word_note faults.NoMemory = codes "no memory\n"
 
--- the note of each status but that of a wrong line, whose note has the line's number
+-- the note of each status but that of a wrong line, whose note has the line's number, and of an unopened store, which has two
 abbrev pub note_at : ℕ → List ℕ
 note_at status =
     if status == 1 then usage_note
@@ -48,7 +48,7 @@ note_at status =
     else (if status == 9 then codes "no memory\n" else []))))
 
 abbrev pub is_status : ℕ → Bool
-is_status status = list_any (λ s. s == status) (0 ∷ 1 ∷ 2 ∷ 3 ∷ 5 ∷ 6 ∷ 9 ∷ [])
+is_status status = list_any (λ s. s == status) (0 ∷ 1 ∷ 2 ∷ 3 ∷ 4 ∷ 5 ∷ 6 ∷ 9 ∷ [])
 
 -- the whole note was taken; or a front of it, and then a write was hindered
 abbrev pub IsNoted : Writing → Writing → List ℕ → Type 0

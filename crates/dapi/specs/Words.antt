@@ -1,20 +1,58 @@
--- The words of a command line.
-use Rattle.std.specs.Prelude.{◌≡◌, ℕ, Bool, false, ◌&&◌, ◌||◌, ◌==◌, nat_le, IsTrue, List, [], ◌∷◌, ◌++◌, length, codes}
-use Rattle.std.specs.List.{list_all}
-use Rattle.std.specs.Char.{is_ascii_digit}
+-- The words of a command line: `run`, and options in any order.
+use Rattle.std.specs.Prelude.{◌≡◌, ℕ, ◌≤◌, IsTrue, List, [], ◌∷◌, ◌++◌, length, map, codes}
+use Rattle.std.specs.List.{flat_map, AllByRecursion as Each}
+use Rattle.doc_paths.specs.Name.{is_collection_name}
+use Rattle.dapi.specs.declared.words.WordFault.{WordFault}
+use Rattle.dapi.specs.declared.words.WordFault.TheVariants.{Usage, NoMemory}
 
-abbrev pub is_name_letter : ℕ → Bool
-is_name_letter b = (nat_le 65 b && nat_le b 90) || (nat_le 97 b && nat_le b 122)
+-- an option: it names the keyspace, or a collection
+pub data Choice : Type 0 where
+  of_keyspace : List ℕ → Choice
+  of_collection : List ℕ → Choice
 
-abbrev pub is_name_byte : ℕ → Bool
-is_name_byte b = is_name_letter b || is_ascii_digit b || (b == 95)
+abbrev pub name_in : Choice → List ℕ
+name_in (of_keyspace name) = name
+name_in (of_collection name) = name
 
--- a collection's name: 1 to 48 letters, digits and `_`, a letter first
-abbrev pub is_collection_name : List ℕ → Bool
-is_collection_name [] = false
-is_collection_name (b ∷ bytes) = is_name_letter b && list_all is_name_byte bytes && nat_le (length bytes) 47
+-- its word
+abbrev pub word_of : Choice → List ℕ
+word_of (of_keyspace name) = codes "--keyspace=" ++ name
+word_of (of_collection name) = codes "--collection=" ++ name
 
--- `run` and `--collection=NAME`
-pub record RunsOn (words : List (List ℕ)) (collection : List ℕ) : Type 0 where
-  pub words_are : words ≡ codes "run" ∷ (codes "--collection=" ++ collection) ∷ []
-  pub name : IsTrue (is_collection_name collection)
+abbrev pub keyspaces_in : List Choice → List (List ℕ)
+keyspaces_in [] = []
+keyspaces_in (of_keyspace name ∷ choices) = name ∷ keyspaces_in choices
+keyspaces_in (of_collection name ∷ choices) = keyspaces_in choices
+
+abbrev pub collections_in : List Choice → List (List ℕ)
+collections_in [] = []
+collections_in (of_keyspace name ∷ choices) = collections_in choices
+collections_in (of_collection name ∷ choices) = name ∷ collections_in choices
+
+-- the keyspace that is named, and else `ks`
+abbrev pub keyspace_of : List (List ℕ) → List ℕ
+keyspace_of [] = codes "ks"
+keyspace_of (name ∷ names) = name
+
+-- options that may stand behind `run`: each name is one by rule, the keyspace is named at most once, and collections at most 100 times
+pub record AreChoices (choices : List Choice) : Type 0 where
+  pub named : Each (λ c. IsTrue (is_collection_name (name_in c))) choices
+  pub once : length (keyspaces_in choices) ≤ 1
+  pub few : length (collections_in choices) ≤ 100
+
+-- the words are `run` and such options; they name this keyspace and these collections
+pub record RunsOn (words : List (List ℕ)) (keyspace : List ℕ) (collections : List (List ℕ)) : Type 0 where
+  pub choices : List Choice
+  pub words_are : words ≡ codes "run" ∷ map word_of choices
+  pub allowed : AreChoices choices
+  pub keyspace_is : keyspace ≡ keyspace_of (keyspaces_in choices)
+  pub collections_are : collections ≡ collections_in choices
+
+-- the words are no command's
+abbrev pub IsUsage : List (List ℕ) → Type 0
+IsUsage words = (keyspace : List ℕ) (collections : List (List ℕ)) → RunsOn words keyspace collections → ⊥
+
+-- why the words can't be used
+abbrev pub IsWordFault : List (List ℕ) → WordFault → Type 0
+IsWordFault words Usage = IsUsage words
+IsWordFault words NoMemory = Unit {0}

@@ -1,21 +1,14 @@
 //! `dapi`: a JSON document service.
 #![tactic(auto)]
 
-mod answer;
-mod bytes;
-mod lines;
 mod note;
-mod reply;
-mod request;
-mod rows;
-mod run;
-mod serve;
 #[cfg(test)]
 mod tests;
 mod top;
 mod words;
 
-use outside_io::{RealSink, RealSource};
+use keeper_mem::MemKeeper;
+use outside_io::{RealClock, RealSink, RealSource};
 use std::env;
 use std::io::ErrorKind;
 use std::process::ExitCode;
@@ -37,6 +30,9 @@ fn words_of(rt: HostRuntime) -> Result<Vec<String>, WordFault> {
     Ok(words)
 }
 
+// What ids are made from. None is made yet.
+const SEED: [u8; 28] = [0; 28];
+
 fn main(rt: HostRuntime) -> ExitCode {
     let mut notes = RealSink::new(rt.stderr());
     let words = match words_of(rt) {
@@ -45,12 +41,17 @@ fn main(rt: HostRuntime) -> ExitCode {
     };
     let mut source = RealSource::new(rt.stdin());
     let mut sink = RealSink::new(rt.stdout());
-    let status = top::dapi(
+    let mut clock = RealClock::new(rt);
+    let keeper = MemKeeper::new(rt.alloc(), Vec::new(rt.alloc()), 0);
+    let (status, _keeper) = top::dapi(
         rt.alloc(),
         words.as_slice(),
         &mut source,
         &mut sink,
         &mut notes,
+        keeper,
+        &mut clock,
+        &SEED,
     );
     ExitCode::from(status)
 }

@@ -2,8 +2,8 @@
 ghost use Rattle.std.specs.Prelude.{◌≡◌, ◌≤◌, length};
 ghost use Rattle.dapi.specs.Note.{status_of, note_of, line_note, word_status, word_note, IsNoted};
 
-use crate::run::RunHow;
 use crate::words::WordFault;
+use api_serve::RunHow;
 use arrayvec::ArrayString;
 use outside_io::{Sink, write_all};
 

@@ -1,8 +1,10 @@
 //! The top call on streams in memory.
 use crate::top::{dapi, refuse_words};
 use crate::words::WordFault;
-use outside_io::{MemSink, MemSource, Source};
+use keeper_mem::MemKeeper;
+use outside_io::{ListClock, MemSink, MemSource, Source};
 use std::alloc::AllocError;
+use std::fmt::Write;
 use std::process::Abort;
 use std::test::Fail;
 
@@ -56,11 +58,11 @@ const REPLIES: &str = r#"{"status":{"insertedIds":["a"]}}
 {"status":{"insertedIds":["d"]}}
 {"status":{"insertedIds":[2.5]}}
 {"errors":[{"message":"Document 2.5 already exists at version 5","errorCode":"DOCUMENT_ALREADY_EXISTS"}]}
+{"errors":[{"message":"Command field invalid: options","errorCode":"COMMAND_FIELD_INVALID"}]}
 {"errors":[{"message":"No command matched","errorCode":"NO_COMMAND_MATCHED"}]}
-{"errors":[{"message":"No command matched","errorCode":"NO_COMMAND_MATCHED"}]}
-{"errors":[{"message":"No command matched","errorCode":"NO_COMMAND_MATCHED"}]}
-{"errors":[{"message":"No command matched","errorCode":"NO_COMMAND_MATCHED"}]}
-{"errors":[{"message":"No command matched","errorCode":"NO_COMMAND_MATCHED"}]}
+{"errors":[{"message":"Command field invalid: document","errorCode":"COMMAND_FIELD_INVALID"}]}
+{"errors":[{"message":"Collection d does not exist","errorCode":"COLLECTION_NOT_EXIST"}]}
+{"errors":[{"message":"Keyspace other does not exist","errorCode":"KEYSPACE_NOT_EXIST"}]}
 {"errors":[{"message":"No command matched","errorCode":"NO_COMMAND_MATCHED"}]}
 {"errors":[{"message":"Body is not JSON at byte 1","errorCode":"INVALID_JSON"}]}
 {"status":{"insertedIds":["q\"\u0001"]}}
@@ -75,7 +77,8 @@ const LINE: &str = "/v1/ks/c {\"insertOne\":{\"document\":{\"_id\":\"a\"}}}\n";
 
 const REPLY: &str = "{\"status\":{\"insertedIds\":[\"a\"]}}\n";
 
-// What a call is given. Reads give at most `piece` bytes, and the sink takes `room`.
+// What a call is given. Reads give at most `piece` bytes, and the sink takes `room`; of the keeper's calls one fails, and its
+// last write has the number `last`.
 #[derive(Clone, Copy)]
 struct Call<'a> {
     words: &'a str,
@@ -84,6 +87,8 @@ struct Call<'a> {
     reads_fail: u64,
     writes_fail: u64,
     room: usize,
+    keeper_fails: u64,
+    last: u64,
 }
 
 const ON_C: Call<'static> = Call {
@@ -93,9 +98,56 @@ const ON_C: Call<'static> = Call {
     reads_fail: 0,
     writes_fail: 0,
     room: 10_000,
+    keeper_fails: 0,
+    last: 0,
 };
 
-// Makes the call, which has to answer this status, with this output and these notes.
+// The words, one behind another.
+fn split_words<R: AllocGlobal>(rt: &R, text: &str) -> Result<Vec<String>, Fail> {
+    let alloc = rt.alloc();
+    let mut words = Vec::new(alloc);
+    for word in text.split_ascii_whitespace() {
+        words.push(String::from_str(alloc, word)?)?;
+    }
+    Ok(words)
+}
+
+// Makes the call over a keeper, which has to answer this status, with this output and these notes.
+fn calls_over<R: Abort + AllocGlobal>(
+    rt: &R,
+    keeper: MemKeeper,
+    call: Call<'_>,
+    status: u8,
+    output: &str,
+    note: &str,
+) -> Result<MemKeeper, Fail> {
+    let alloc = rt.alloc();
+    let words = split_words(rt, call.words)?;
+    let input = call.input.as_bytes().to_vec(alloc)?;
+    let reads_fail = [call.reads_fail].to_vec(alloc)?;
+    let writes_fail = [call.writes_fail].to_vec(alloc)?;
+    let mut source = MemSource::new(input, call.piece.max(1), reads_fail);
+    let mut sink = MemSink::new(alloc, call.room, writes_fail)?;
+    let mut notes = MemSink::new(alloc, 100, Vec::new(alloc))?;
+    let mut clock = ListClock::new(Vec::new(alloc));
+    let words = words.as_slice();
+    let (answer, keeper) = dapi(
+        alloc,
+        words,
+        &mut source,
+        &mut sink,
+        &mut notes,
+        keeper,
+        &mut clock,
+        &[0; 28],
+    );
+    assert_eq!(rt; answer, status, "at {}", call.input);
+    assert_eq!(rt; sink.bytes(), output.as_bytes());
+    assert_eq!(rt; notes.bytes(), note.as_bytes());
+    Ok(keeper)
+}
+
+// Makes the call over a new keeper.
 fn calls<R: Abort + AllocGlobal>(
     rt: &R,
     call: Call<'_>,
@@ -104,22 +156,198 @@ fn calls<R: Abort + AllocGlobal>(
     note: &str,
 ) -> Result<(), Fail> {
     let alloc = rt.alloc();
-    let mut words = Vec::new(alloc);
-    for word in call.words.split_ascii_whitespace() {
-        words.push(String::from_str(alloc, word)?)?;
-    }
-    let input = call.input.as_bytes().to_vec(alloc)?;
-    let reads_fail = [call.reads_fail].to_vec(alloc)?;
-    let writes_fail = [call.writes_fail].to_vec(alloc)?;
-    let mut source = MemSource::new(input, call.piece.max(1), reads_fail);
-    let mut sink = MemSink::new(alloc, call.room, writes_fail)?;
-    let mut notes = MemSink::new(alloc, 100, Vec::new(alloc))?;
-    let words = words.as_slice();
-    let answer = dapi(alloc, words, &mut source, &mut sink, &mut notes);
-    assert_eq!(rt; answer, status, "at {}", call.input);
-    assert_eq!(rt; sink.bytes(), output.as_bytes());
-    assert_eq!(rt; notes.bytes(), note.as_bytes());
+    let fails = [call.keeper_fails].to_vec(alloc)?;
+    let keeper = MemKeeper::new(alloc, fails, call.last.min(9_223_372_036_854_775_806));
+    let _ = calls_over(rt, keeper, call, status, output, note)?;
     Ok(())
+}
+
+// A run, its lines and replies.
+#[derive(Clone, Copy)]
+struct Row<'a> {
+    call: Call<'a>,
+    status: u8,
+    output: &'a str,
+    note: &'a str,
+}
+
+const ROWS: [Row<'static>; 8] = [
+    Row {
+        call: Call {
+            input: r#"/v1/ks/c {"insertOne":{"document":{"_id":"a","n":1.50}}}
+/v1/ks/c {"findOne":{"filter":{"_id":"a"}}}
+/v1/ks/c {"findOne":{"filter":{"_id":"x"}}}
+/v1/ks/c {"findOne":{}}
+/v1/ks/zz {"findOne":{}}
+/v1/ks/zz {"insertOne":{"document":{"_id":1}}}
+/v1/ks/9c {"findOne":{}}"#,
+            ..ON_C
+        },
+        status: 0,
+        output: r#"{"status":{"insertedIds":["a"]}}
+{"data":{"document":{"_id":"a","n":1.5}}}
+{"data":{"document":null}}
+{"data":{"document":{"_id":"a","n":1.5}}}
+{"errors":[{"message":"Collection zz does not exist","errorCode":"COLLECTION_NOT_EXIST"}]}
+{"errors":[{"message":"Collection zz does not exist","errorCode":"COLLECTION_NOT_EXIST"}]}
+{"errors":[{"message":"Collection name is invalid: 9c","errorCode":"INVALID_COLLECTION_NAME"}]}
+"#,
+        note: "",
+    },
+    Row {
+        call: Call {
+            input: r#"/v1/ks/c {"insertOne":{"document":{"_id":"b","n":99999999999999999999.999999999999999999,"e":1e3,"z":-0}}}
+/v1/ks/c {"findOne":{"filter":{"_id":"b"}}}"#,
+            ..ON_C
+        },
+        status: 0,
+        output: r#"{"status":{"insertedIds":["b"]}}
+{"data":{"document":{"_id":"b","n":99999999999999999999.999999999999999999,"e":1000,"z":0}}}
+"#,
+        note: "",
+    },
+    Row {
+        call: Call {
+            input: r#"/v1/ks/c {"insertOne":{"document":{"_id":"t","tags":["x",null,{"k":1}]}}}
+/v1/ks/c {"countDocuments":{"filter":{"tags":"x"}}}
+/v1/ks/c {"countDocuments":{"filter":{"tags":null}}}
+/v1/ks/c {"countDocuments":{"filter":{"tags.2.k":1}}}
+/v1/ks/c {"countDocuments":{"filter":{"tags":{"$size":3}}}}
+/v1/ks/c {"countDocuments":{"filter":{"tags":{"$ne":"x"}}}}"#,
+            ..ON_C
+        },
+        status: 0,
+        output: r#"{"status":{"insertedIds":["t"]}}
+{"status":{"count":1}}
+{"status":{"count":1}}
+{"status":{"count":1}}
+{"status":{"count":1}}
+{"status":{"count":0}}
+"#,
+        note: "",
+    },
+    Row {
+        call: Call {
+            words: "run --keyspace=k2 --collection=c --collection=d --collection=c",
+            input: r#"/v1/k2/d {"insertOne":{"document":{"_id":"1","a":{"0":5}}}}
+/v1/k2/d {"insertOne":{"document":{"_id":"2","a":[5]}}}
+/v1/k2/d {"countDocuments":{"filter":{"a.0":5}}}
+/v1/k2/c {"insertOne":{"document":{"_id":"a"}}}
+/v1/k2/c {"countDocuments":{"filter":{"x":{"$ne":1}}}}
+/v1/k2/c {"countDocuments":{"filter":{"x":{"$nin":[1]}}}}
+/v1/k2/c {"countDocuments":{"filter":{"$not":{"x":{"$gt":1}}}}}
+/v1/k2/c {"countDocuments":{"filter":{"x":{"$exists":false}}}}
+/v1/k2/c {"countDocuments":{"filter":{"x":null}}}
+/v1/ks/c {"countDocuments":{}}"#,
+            ..ON_C
+        },
+        status: 0,
+        output: r#"{"status":{"insertedIds":["1"]}}
+{"status":{"insertedIds":["2"]}}
+{"status":{"count":2}}
+{"status":{"insertedIds":["a"]}}
+{"status":{"count":1}}
+{"status":{"count":1}}
+{"status":{"count":1}}
+{"status":{"count":1}}
+{"status":{"count":0}}
+{"errors":[{"message":"Keyspace ks does not exist","errorCode":"KEYSPACE_NOT_EXIST"}]}
+"#,
+        note: "",
+    },
+    Row {
+        call: Call {
+            input: LINE,
+            keeper_fails: 2,
+            ..ON_C
+        },
+        status: 4,
+        output: "",
+        note: "keeper fault\n",
+    },
+    Row {
+        call: Call {
+            input: r#"/v1/ks/c {"insertOne":{"document":{"_id":"a"}}}
+/v1/ks/c {"insertOne":{"document":{"_id":"a"}}}
+/v1/ks/c {"insertOne":{"document":{"_id":"a"}}}"#,
+            keeper_fails: 3,
+            ..ON_C
+        },
+        status: 0,
+        output: r#"{"errors":[{"message":"Store fault: 0 then 1","errorCode":"STORE_FAULT"}]}
+{"status":{"insertedIds":["a"]}}
+{"errors":[{"message":"Document \"a\" already exists at version 1","errorCode":"DOCUMENT_ALREADY_EXISTS"}]}
+"#,
+        note: "",
+    },
+    Row {
+        call: Call {
+            input: r#"/v1/ks/c {"insertOne":{"document":{"_id":"a"}}}
+/v1/ks/c {"insertOne":{"document":{"_id":"b"}}}
+/v1/ks/c {"countDocuments":{}}"#,
+            last: 9_223_372_036_854_775_805,
+            ..ON_C
+        },
+        status: 0,
+        output: r#"{"status":{"insertedIds":["a"]}}
+{"errors":[{"message":"No version numbers are left","errorCode":"VERSIONS_SPENT"}]}
+{"status":{"count":1}}
+"#,
+        note: "",
+    },
+    Row {
+        call: Call {
+            words: "run",
+            input: "hello",
+            ..ON_C
+        },
+        status: 6,
+        output: "",
+        note: "line 1 is not a request\n",
+    },
+];
+
+#[test]
+fn rows_are_answered(rt: HostRuntime) -> Result<(), Fail> {
+    for row in ROWS {
+        calls(&rt, row.call, row.status, row.output, row.note)?;
+    }
+    Ok(())
+}
+
+// `run`, and this many collections, whose names begin so.
+fn named_words<R: AllocGlobal>(rt: &R, count: usize) -> Result<String, AllocError> {
+    let mut words = String::from_str(rt.alloc(), "run")?;
+    for i in 0..count {
+        words.push_str(" --collection=n")?;
+        write!(words, "{i}")?;
+    }
+    Ok(words)
+}
+
+#[test]
+fn a_hundred_collections_live(rt: HostRuntime) -> Result<(), Fail> {
+    let alloc = rt.alloc();
+    let keeper = MemKeeper::new(alloc, Vec::new(alloc), 0);
+    let keeper = calls_over(&rt, keeper, ON_C, 0, "", "")?;
+    let most = named_words(&rt, 99)?;
+    let call = Call {
+        words: most.as_str(),
+        ..ON_C
+    };
+    let keeper = calls_over(&rt, keeper, call, 0, "", "")?;
+    let more = named_words(&rt, 100)?;
+    let call = Call {
+        words: more.as_str(),
+        ..ON_C
+    };
+    let _ = calls_over(&rt, keeper, call, 4, "", "too many collections\n")?;
+    let over = named_words(&rt, 101)?;
+    let call = Call {
+        words: over.as_str(),
+        ..ON_C
+    };
+    calls(&rt, call, 1, "", USAGE)
 }
 
 #[test]
@@ -147,7 +375,7 @@ fn input_ends_with_or_without_a_feed(rt: HostRuntime) -> Result<(), Fail> {
 #[test]
 fn other_words_are_usage(rt: HostRuntime) -> Result<(), Fail> {
     let words =
-        "fly|run|run --collection=|run --collection=9c|run --collection=c x|run -collection=c|--collection=c run";
+        "fly|run --collection=|run --collection=9c|run --collection=c x|run -collection=c|--collection=c run|run --keyspace=|run --keyspace=a --keyspace=a|run --store=memory";
     for words in words.split('|') {
         calls(&rt, Call { words, ..ON_C }, 1, "", USAGE)?;
     }
@@ -293,10 +521,20 @@ fn a_body_is_refused_as_soon_as_it_is_too_long(rt: HostRuntime) -> Result<(), Fa
     let mut source = MemSource::new(input, 60_000, Vec::new(alloc));
     let mut sink = MemSink::new(alloc, 1000, Vec::new(alloc))?;
     let mut notes = MemSink::new(alloc, 100, Vec::new(alloc))?;
-    assert_eq!(rt;
-        dapi(alloc, words.as_slice(), &mut source, &mut sink, &mut notes),
-        6
+    let mut clock = ListClock::new(Vec::new(alloc));
+    let keeper = MemKeeper::new(alloc, Vec::new(alloc), 0);
+    let words = words.as_slice();
+    let (status, _) = dapi(
+        alloc,
+        words,
+        &mut source,
+        &mut sink,
+        &mut notes,
+        keeper,
+        &mut clock,
+        &[0; 28],
     );
+    assert_eq!(rt; status, 6);
     assert_eq!(rt; sink.bytes(), REPLY.as_bytes());
     assert_eq!(rt; notes.bytes(), b"line 2 is not a request\n".as_slice());
     Ok(())
@@ -308,7 +546,19 @@ fn usage_reads_and_writes_nothing(rt: HostRuntime) -> Result<(), Fail> {
     let mut source = MemSource::new(LINE.as_bytes().to_vec(alloc)?, 100, Vec::new(alloc));
     let mut sink = MemSink::new(alloc, 100, Vec::new(alloc))?;
     let mut notes = MemSink::new(alloc, 100, Vec::new(alloc))?;
-    assert_eq!(rt; dapi(alloc, &[], &mut source, &mut sink, &mut notes), 1);
+    let mut clock = ListClock::new(Vec::new(alloc));
+    let keeper = MemKeeper::new(alloc, Vec::new(alloc), 0);
+    let (status, _) = dapi(
+        alloc,
+        &[],
+        &mut source,
+        &mut sink,
+        &mut notes,
+        keeper,
+        &mut clock,
+        &[0; 28],
+    );
+    assert_eq!(rt; status, 1);
     assert_eq!(rt; refuse_words(&mut notes, WordFault::NoMemory), 9);
     let mut buffer = [0u8; 100];
     assert_eq!(rt; source.read(&mut buffer), Ok(48));

@@ -1,16 +1,22 @@
 //! The program's top call.
-ghost use Rattle.std.specs.Prelude.{◌≡◌, ◌⊎◌, ◌≤◌, ◌<◌, ◌^◌, ℕ, List, map, string_bytes, IsTrue};
+ghost use Rattle.std.specs.Prelude.{◌≡◌, ◌⊎◌, ◌≤◌, ◌<◌, ◌^◌, ℕ, List, codes, map, string_bytes, IsTrue};
+ghost use Rattle.std.specs.Option.{ForSome};
 ghost use Rattle.outside_io.specs.Causes.{Rose};
 ghost use Rattle.outside_io.specs.Told.{IsHindered};
-ghost use Rattle.dapi.specs.Words.{RunsOn};
-ghost use Rattle.dapi.specs.Run.{ServesInput, ServesWholeLines, ServesBefore, ServesCut, ServesFirst, HasRead};
+ghost use Rattle.store_core.specs.Opening.{would_live, Refuses};
+ghost use Rattle.store_core.specs.Store.{IsKept};
+ghost use Rattle.api_serve.specs.Run.{ServesInput, ServesWholeLines, ServesBefore, ServesCut, ServesFirst, HasRead};
+ghost use Rattle.dapi.specs.Words.{RunsOn, IsUsage};
+ghost use Rattle.dapi.specs.Top.{Runs, FailsOpening, IsOverfull};
 ghost use Rattle.dapi.specs.Note.{IsNoted, line_note, note_at, is_status, word_status, word_note};
 
 use crate::note::{note_of, status_of, word_note, word_status, write_note};
-use crate::serve::run_lines;
-use crate::words::{WordFault, collection_of};
-use outside_io::{Sink, Source};
+use crate::words::{WordFault, read};
+use api_serve::{RunEnd, run_lines};
+use col_keeper::Keeper;
+use outside_io::{Clock, Sink, Source};
 use std::alloc::Global;
+use store_core::{OpenFault, Store};
 
 /// Ends a call whose words couldn't be used: writes the note, and answers the exit status.
 pub fn refuse_words<E: Sink>(notes: &mut E, fault: WordFault) -> u8
@@ -21,48 +27,120 @@ pub fn refuse_words<E: Sink>(notes: &mut E, fault: WordFault) -> u8
     word_status(fault)
 }
 
-/// Does what the words after the program's name say, and answers the exit status: 0 all was read and written, 1 usage,
-/// 2 the source failed, 3 the sink failed or ended, 5 the input is too long, 6 a line isn't a request, 9 no memory.
-pub fn dapi<S: Source, W: Sink, E: Sink>(
+// Ends a call whose store couldn't be opened: writes the note, and hands the keeper back.
+fn refuse_store<E: Sink, K: Keeper>(notes: &mut E, fault: OpenFault<K>) -> (u8, K) {
+    match fault {
+        OpenFault::KeeperFault {
+            keeper,
+            before: _,
+            after: _,
+        } => {
+            write_note(notes, "keeper fault\n");
+            (4, keeper)
+        }
+        OpenFault::TooMany { keeper } => {
+            write_note(notes, "too many collections\n");
+            (4, keeper)
+        }
+        OpenFault::NoMemory { keeper } => {
+            write_note(notes, "no memory\n");
+            (9, keeper)
+        }
+    }
+}
+
+// Runs on an open store, and hands its keeper back.
+fn run_store<S: Source, W: Sink, E: Sink, K: Keeper, C: Clock>(
+    alloc: Global,
+    keyspace: &str,
+    source: &mut S,
+    sink: &mut W,
+    notes: &mut E,
+    store: Store<K>,
+    clock: &mut C,
+    seed: &[u8; 28],
+) -> (u8, K) {
+    let mut store = store;
+    let RunEnd { how, traces: _ } = run_lines(alloc, keyspace, source, sink, &mut store, clock, seed);
+    write_note(notes, note_of(how).as_str());
+    (status_of(how), store.into_keeper())
+}
+
+/// Does what the words after the program's name say over a keeper, and answers the exit status, and the keeper: 0 all was
+/// read and written, 1 usage, 2 the source failed, 3 the sink failed or ended, 4 the store couldn't be opened, 5 the input
+/// is too long, 6 a line isn't a request, 9 no memory.
+pub fn dapi<S: Source, W: Sink, E: Sink, K: Keeper, C: Clock>(
     alloc: Global,
     words: &[String],
     source: &mut S,
     sink: &mut W,
     notes: &mut E,
-) -> u8
-    // Every line was read, and the answers to all of them were written, in order, and nothing else.
-    ensures answered { result ≡ 0 → (name : List ℕ) × RunsOn (map string_bytes words.now) name × ServesInput name (S.reading source.old) (S.reading source.new) (W.writing sink.old) (W.writing sink.new) }
+    keeper: K,
+    clock: &mut C,
+    seed: &[u8; 28],
+) -> (u8, K)
+    // Every line was read, its request served, and the replies to all of them were written, in order, and nothing else.
+    ensures answered { result.0 ≡ 0 → Runs K.tables K.failed (map string_bytes words.now) keeper result.1 (C.times clock.old)
+        (λ Served. ServesInput Served (S.reading source.old) (S.reading source.new) (W.writing sink.old) (W.writing sink.new)) }
 
-    // The words are no command's; nothing was read or written.
-    ensures usage { result ≡ 1 → (name : List ℕ) → RunsOn (map string_bytes words.now) name → ⊥ }
-    ensures used { ((name : List ℕ) → RunsOn (map string_bytes words.now) name → ⊥) → result ≡ 1 }
-    ensures untouched { result ≡ 1 → (source.new ≡ source.old) × (sink.new ≡ sink.old) }
+    // The words are no command's; nothing was read, written or kept.
+    ensures usage { result.0 ≡ 1 → IsUsage (map string_bytes words.now) }
+    ensures used { IsUsage (map string_bytes words.now) → (result.0 ≡ 1) ⊎ (result.0 ≡ 9) }
+    ensures untouched { result.0 ≡ 1 → (source.new ≡ source.old) × (sink.new ≡ sink.old) × (result.1 ≡ keeper) }
 
-    // The source failed; the answers to all whole lines that were read stand.
-    ensures read_fault { result ≡ 2 → Rose (S.reading source.old).failed (S.reading source.new).failed }
-    ensures read_so_far { result ≡ 2 → (name : List ℕ) × RunsOn (map string_bytes words.now) name × ((count : ℕ) × (count < 2 ^ 40) × ServesWholeLines name (S.reading source.old) (S.reading source.new) (W.writing sink.old) (W.writing sink.new) count) }
+    // The source failed; the replies to the requests of all whole lines that were read stand.
+    ensures read_fault { result.0 ≡ 2 → Rose (S.reading source.old).failed (S.reading source.new).failed }
+    ensures read_so_far { result.0 ≡ 2 → Runs K.tables K.failed (map string_bytes words.now) keeper result.1 (C.times clock.old)
+        (λ Served. (count : ℕ) × (count < 2 ^ 40) × ServesWholeLines Served (S.reading source.old) (S.reading source.new) (W.writing sink.old) (W.writing sink.new) count) }
 
-    // The sink failed or ended; a front of the answers to some first lines stands.
-    ensures write_fault { result ≡ 3 → IsHindered (W.writing sink.old) (W.writing sink.new) }
-    ensures written_so_far { result ≡ 3 → (name : List ℕ) × RunsOn (map string_bytes words.now) name × ServesCut name (S.reading source.old) (S.reading source.new) (W.writing sink.old) (W.writing sink.new) }
+    // The sink failed or ended; a front of the replies to the requests of some first lines stands.
+    ensures write_fault { result.0 ≡ 3 → IsHindered (W.writing sink.old) (W.writing sink.new) }
+    ensures written_so_far { result.0 ≡ 3 → Runs K.tables K.failed (map string_bytes words.now) keeper result.1 (C.times clock.old)
+        (λ Served. ServesCut Served (S.reading source.old) (S.reading source.new) (W.writing sink.old) (W.writing sink.new)) }
 
-    // So many bytes were read; the answers to all whole lines among them stand.
-    ensures too_long { result ≡ 5 → (name : List ℕ) × RunsOn (map string_bytes words.now) name × ServesWholeLines name (S.reading source.old) (S.reading source.new) (W.writing sink.old) (W.writing sink.new) (2 ^ 40) }
+    // The store couldn't be opened: a call of the keeper failed, or over 100 collections would live. Nothing was read or written.
+    ensures unopened { result.0 ≡ 4 → (Rose (K.failed keeper) (K.failed result.1) × FailsOpening K.tables K.failed (map string_bytes words.now) keeper result.1
+        × IsNoted (E.writing notes.old) (E.writing notes.new) (codes "keeper fault\n"))
+        ⊎ (IsOverfull K.tables K.failed (map string_bytes words.now) keeper result.1
+        × IsNoted (E.writing notes.old) (E.writing notes.new) (codes "too many collections\n")) }
+    ensures unread { result.0 ≡ 4 → (source.new ≡ source.old) × (sink.new ≡ sink.old) }
+    ensures overfull { (keyspace : List ℕ) (collections : List (List ℕ)) → RunsOn (map string_bytes words.now) keyspace collections
+        → ForSome (K.tables keeper) (λ t. 100 < would_live collections t → (result.0 ≡ 4) ⊎ (result.0 ≡ 9)) }
 
-    // A line isn't of its form; the answers to all lines before it stand.
-    ensures wrong_line { result ≡ 6 → (name : List ℕ) × (line : ℕ) × RunsOn (map string_bytes words.now) name × ServesBefore name (S.reading source.old) (W.writing sink.old) (W.writing sink.new) line × IsNoted (E.writing notes.old) (E.writing notes.new) (line_note line) }
+    // So many bytes were read; the replies to the requests of all whole lines among them stand.
+    ensures too_long { result.0 ≡ 5 → Runs K.tables K.failed (map string_bytes words.now) keeper result.1 (C.times clock.old)
+        (λ Served. ServesWholeLines Served (S.reading source.old) (S.reading source.new) (W.writing sink.old) (W.writing sink.new) (2 ^ 40)) }
 
-    // Memory ran out outside of a request; the answers to some first lines stand.
-    ensures no_memory { result ≡ 9 → (name : List ℕ) × RunsOn (map string_bytes words.now) name × ServesFirst name (S.reading source.old) (S.reading source.new) (W.writing sink.old) (W.writing sink.new) }
+    // A line isn't of its form; the replies to the requests of all lines before it stand.
+    ensures wrong_line { result.0 ≡ 6 → (line : ℕ) × IsNoted (E.writing notes.old) (E.writing notes.new) (line_note line)
+        × Runs K.tables K.failed (map string_bytes words.now) keeper result.1 (C.times clock.old)
+        (λ Served. ServesBefore Served (S.reading source.old) (S.reading source.new) (W.writing sink.old) (W.writing sink.new) line) }
 
-    ensures statuses { IsTrue (is_status result) }
-    ensures noted { (result ≡ 6 → ⊥) → IsNoted (E.writing notes.old) (E.writing notes.new) (note_at result) }
+    // Memory ran out outside of a request: before anything was read or written, or the replies to some first requests stand, of the last perhaps a front.
+    ensures no_memory { result.0 ≡ 9 → ((source.new ≡ source.old) × (sink.new ≡ sink.old))
+        ⊎ Runs K.tables K.failed (map string_bytes words.now) keeper result.1 (C.times clock.old)
+        (λ Served. ServesFirst Served (S.reading source.old) (S.reading source.new) (W.writing sink.old) (W.writing sink.new)) }
+
+    ensures statuses { IsTrue (is_status result.0) }
+    ensures noted { (result.0 ≡ 4 → ⊥) → (result.0 ≡ 6 → ⊥) → IsNoted (E.writing notes.old) (E.writing notes.new) (note_at result.0) }
     ensures bounded { (count : ℕ) × (count ≤ 2 ^ 40) × HasRead (S.reading source.old) (S.reading source.new) count }
+    ensures faults { K.failed keeper ≤ K.failed result.1 }
 {
-    let Some(collection) = collection_of(words) else {
-        return refuse_words(notes, WordFault::Usage);
+    let job = match read(alloc, words) {
+        Ok(job) => job,
+        Err(fault) => return (refuse_words(notes, fault), keeper),
     };
-    let how = run_lines(alloc, collection, source, sink);
-    write_note(notes, note_of(how).as_str());
-    status_of(how)
+    match Store::open(alloc, keeper, job.collections.as_slice()) {
+        Ok(store) => run_store(
+            alloc,
+            job.keyspace.text(),
+            source,
+            sink,
+            notes,
+            store,
+            clock,
+            seed,
+        ),
+        Err(fault) => refuse_store(notes, fault),
+    }
 }

@@ -1,7 +1,11 @@
 //! The words of a command line.
-ghost use Rattle.std.specs.Prelude.{◌≡◌, ℕ, List, ◌++◌, codes, map, MatchOption, string_bytes, IsTrue};
-ghost use Rattle.std.specs.List.{list_all};
-ghost use Rattle.dapi.specs.Words.{is_name_byte, is_name_letter, is_collection_name, RunsOn};
+ghost use Rattle.std.specs.Prelude.{◌≡◌, ◌++◌, ◌≤◌, ℕ, List, codes, map, string_bytes, MatchOption, IfOk, IfErr, IsTrue};
+ghost use Rattle.doc_paths.specs.Name.{is_collection_name};
+ghost use Rattle.dapi.specs.Words.{Choice, word_of, RunsOn, IsUsage, IsWordFault};
+ghost use Rattle.dapi.specs.Chosen.{choice_of, HasChosen};
+
+use doc_paths::{CollName, NameFault};
+use std::alloc::Global;
 
 /// Why the words of a command line can't be used.
 #[derive(Clone, Copy, Debug, PartialEq, Eq)]
@@ -11,49 +15,124 @@ pub enum WordFault {
     NoMemory,
 }
 
-fn is_name_byte(b: u8) -> bool
-    ensures { result ≡ is_name_byte b }
-{
-    b.is_ascii_alphanumeric() || b == b'_'
+/// What the words ask for: a run on a keyspace, with these collections.
+#[derive(Drop)]
+pub struct Job {
+    pub keyspace: CollName,
+    pub collections: Vec<CollName>,
 }
 
-fn are_name_bytes(bytes: &[u8]) -> bool
-    ensures { result ≡ list_all is_name_byte bytes.now }
-{
-    bytes.iter().all(|b| is_name_byte(*b))
+/// An option, within its word.
+#[derive(Clone, Copy)]
+enum Chosen<'a> {
+    Keyspace(&'a str),
+    Collection(&'a str),
 }
 
-/// Whether these bytes are a collection's name: 1 to 48 bytes, the first a letter, the others letters, digits or `_`.
-pub fn is_collection_name(name: &[u8]) -> bool
-    ensures { result ≡ is_collection_name name.now }
+/// The options so far.
+#[derive(Drop)]
+struct Choices {
+    keyspace: Option<CollName>,
+    collections: Vec<CollName>,
+}
+
+const MOST_COLLECTIONS: usize = 100;
+
+// The option that a word is.
+fn option_in(word: &str) -> Option<Chosen<'_>>
+    ensures { MatchOption result ((choice : Choice) → word.now ≡ word_of choice → ⊥) (λ chosen. word.now ≡ word_of (choice_of chosen)) }
 {
-    match name.split_first() {
-        None => false,
-        Some((first, rest)) => {
-            first.is_ascii_alphabetic() && are_name_bytes(rest) && rest.len() <= 47
+    if let Some(name) = word.strip_prefix("--keyspace=") {
+        return Some(Chosen::Keyspace(name));
+    }
+    match word.strip_prefix("--collection=") {
+        Some(name) => Some(Chosen::Collection(name)),
+        None => None,
+    }
+}
+
+// A name, which has to be one by rule.
+fn name_of(alloc: Global, name: &str) -> Result<CollName, WordFault>
+    ensures ok { IfOk result (λ n. (n ≡ name.now) × IsTrue (is_collection_name name.now)) }
+    ensures usage { IfErr result (λ fault. fault ≡ WordFault.Usage → IsTrue (is_collection_name name.now) → ⊥) }
+{
+    match CollName::read(alloc, name) {
+        Ok(name) => Ok(name),
+        Err(NameFault::Bad) => Err(WordFault::Usage),
+        Err(NameFault::NoMemory) => Err(WordFault::NoMemory),
+    }
+}
+
+// Takes one more option.
+fn choose(alloc: Global, word: &str, choices: &mut Choices) -> Result<(), WordFault> {
+    match option_in(word) {
+        None => Err(WordFault::Usage),
+        Some(Chosen::Keyspace(name)) => {
+            let name = name_of(alloc, name)?;
+            if choices.keyspace.is_some() {
+                return Err(WordFault::Usage);
+            }
+            choices.keyspace = Some(name);
+            Ok(())
+        }
+        Some(Chosen::Collection(name)) => {
+            let name = name_of(alloc, name)?;
+            if choices.collections.len() >= MOST_COLLECTIONS {
+                return Err(WordFault::Usage);
+            }
+            match choices.collections.push(name) {
+                Ok(()) => Ok(()),
+                Err(_) => Err(WordFault::NoMemory),
+            }
         }
     }
 }
 
-// The value of the option `--collection=`.
-fn collection_option(word: &[u8]) -> Option<&[u8]>
-    ensures { MatchOption result ((name : List ℕ) → word.now ≡ codes "--collection=" ++ name → ⊥) (λ name. word.now ≡ codes "--collection=" ++ name.now) }
+// The options behind the command.
+fn choices_of(alloc: Global, options: &[String]) -> Result<Choices, WordFault>
+    ensures ok { IfOk result (HasChosen (map string_bytes options.now)) }
+    ensures err { IfErr result (λ fault. IsWordFault (codes "run" ∷ map string_bytes options.now) fault) }
 {
-    word.strip_prefix(b"--collection=".as_slice())
+    let mut choices = Choices {
+        keyspace: None,
+        collections: Vec::new(alloc),
+    };
+    for option in options {
+        match choose(alloc, option.as_str(), &mut choices) {
+            Ok(()) => {}
+            Err(fault) => return Err(fault),
+        }
+    }
+    Ok(choices)
 }
 
-/// The collection that the words run on, where they are `run` and `--collection=NAME`.
-pub fn collection_of(words: &[String]) -> Option<&[u8]>
-    ensures { MatchOption result ((name : List ℕ) → RunsOn (map string_bytes words.now) name → ⊥) (λ name. RunsOn (map string_bytes words.now) name.now) }
+/// The job that the words after the program's name ask for.
+pub fn read(alloc: Global, words: &[String]) -> Result<Job, WordFault>
+    ensures ok { IfOk result (λ job. RunsOn (map string_bytes words.now) job.keyspace job.collections.items) }
+    ensures err { IfErr result (IsWordFault (map string_bytes words.now)) }
 {
-    if words.len() != 2 || words[0].as_str() != "run" {
-        return None;
-    }
-    let Some(name) = collection_option(words[1].as_str().as_bytes()) else {
-        return None;
+    let Some((command, options)) = words.split_first() else {
+        return Err(WordFault::Usage);
     };
-    if !is_collection_name(name) {
-        return None;
+    if command.as_str() != "run" {
+        return Err(WordFault::Usage);
     }
-    Some(name)
+    let Choices {
+        keyspace,
+        collections,
+    } = match choices_of(alloc, options) {
+        Ok(choices) => choices,
+        Err(fault) => return Err(fault),
+    };
+    let keyspace = match keyspace {
+        Some(keyspace) => keyspace,
+        None => match CollName::read(alloc, "ks") {
+            Ok(keyspace) => keyspace,
+            Err(_) => return Err(WordFault::NoMemory),
+        },
+    };
+    Ok(Job {
+        keyspace,
+        collections,
+    })
 }

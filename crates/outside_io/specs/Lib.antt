@@ -2,3 +2,4 @@ pub mod Calls
 pub mod Causes
 pub mod Memory
 pub mod Told
+pub mod Times

@@ -1,0 +1,54 @@
+-- A session that was opened, and the lines that it served.
+use Rattle.std.proofs.Common.{◌≡◌, ◌^◌, ◌++◌, ◌∷◌, [], ℕ, ℤ, List, Option, sym, ◌∙◌, ap, subst, append_assoc}
+use Rattle.std.specs.Option.{ForSome}
+use Rattle.outside_io.specs.Told.{Reading, Writing}
+use Rattle.store_core.specs.State.{State}
+use Rattle.store_core.specs.Counts.{opened_in}
+use Rattle.store_core.specs.declared.entry.Entry.TheVariants.{Opened}
+use Rattle.cmd_tasks.specs.Session.{IsSession, AreCounted}
+use Rattle.cmd_tasks.specs.declared.trace.Trace.{Trace}
+use Rattle.api_serve.specs.Session.{Serving, AreTraces, AreMoments}
+use Rattle.api_serve.specs.Shown.{service_of}
+use Rattle.api_serve.specs.Run.{Serves, ServesLines, ServesInput, ServesWholeLines, ServesBefore, ServesFirst, ServesCut}
+use Rattle.api_serve.specs.Ends.{EndsRun}
+use Rattle.api_serve.specs.declared.run.RunHow.{RunHow}
+use Rattle.api_serve.specs.declared.run.RunHow.TheVariants.{Done, ReadFault, WriteFault, TooLong, WrongLine, NoMemory}
+
+-- what an opened session served, from before it was opened
+pub opened_lines : (keyspace : List ℕ) (start : Option State) (number : ℕ) (before opened after : Serving) (lines : List (List ℕ)) (output : List ℕ) → number ≡ opened_in before.journal
+    → opened.journal ≡ before.journal ++ Opened number ∷ [] → opened.failed ≡ before.failed → opened.traces ≡ [] → opened.times ≡ before.times → ForSome start (λ base. IsSession base opened.journal number [])
+    → Serves (service_of keyspace start number) opened lines output after → ServesLines keyspace start before after lines output
+opened_lines keyspace start number before opened after lines output number_is journal failed traces times begun s =
+    let more = s.made.grown.more in
+    record {
+      requests = s.requests;
+      exchanges = s.exchanges;
+      requested = s.requested;
+      asked = s.asked;
+      number = number;
+      number_is = number_is;
+      more = more;
+      journal = s.made.grown.journal_is ∙ ap (λ xs. xs ++ more) journal ∙ append_assoc before.journal (Opened number ∷ []) more;
+      alone = s.made.grown.alone;
+      counted = subst (λ (n : ℕ). AreCounted n after.failed more) failed s.made.grown.counted;
+      session = λ base told. s.made.session base told [] (begun base told);
+      traces = subst (λ (ts : List Trace). AreTraces ts s.exchanges) (sym (s.made.traces ∙ ap (λ ts. ts ++ s.made.more) traces)) s.made.kept;
+      moments = subst (λ (o : Option (List ℤ)). ForSome o (λ ts. AreMoments ts s.exchanges)) times s.made.moments;
+      text = s.text;
+    }
+
+-- an end, with another word on the lines that were served
+module _ (P Q : List (List ℕ) → List ℕ → Type 0) (said : (lines : List (List ℕ)) (output : List ℕ) → P lines output → Q lines output) (from to : Reading) (before after : Writing) where
+  whole_as : (count : ℕ) → ServesWholeLines P from to before after count → ServesWholeLines Q from to before after count
+  whole_as count h = record { input = h.input; lines = h.lines; part = h.part; output = h.output; read = h.read; size = h.size; split = h.split; served = said h.lines h.output h.served; written = h.written }
+
+  first_as : ServesFirst P from to before after → ServesFirst Q from to before after
+  first_as h = record { input = h.input; lines = h.lines; output = h.output; count = h.count; read = h.read; first = h.first; served = said h.lines h.output h.served; written = h.written }
+
+  pub ends_as : (how : RunHow) → EndsRun P from to before after how → EndsRun Q from to before after how
+  ends_as Done h = record { input = h.input; lines = h.lines; output = h.output; read = h.read; size = h.size; ended = h.ended; has_lines = h.has_lines; served = said h.lines h.output h.served; written = h.written }
+  ends_as (ReadFault b a) h = (h.0, (h.1.0, h.1.1, whole_as h.1.0 h.1.2))
+  ends_as (WriteFault b a nothing) h = (h.0, record { first = first_as h.1.first; cut = h.1.cut })
+  ends_as TooLong h = whole_as (2 ^ 40) h
+  ends_as (WrongLine number) h = record { lines = h.lines; output = h.output; number_is = h.number_is; wrong = h.wrong; served = said h.lines h.output h.served; written = h.written }
+  ends_as NoMemory h = first_as h

@@ -1,0 +1,13 @@
+pub mod Separated
+pub mod Lines
+pub mod Request
+pub mod Asked
+pub mod Answered
+pub mod Grown
+pub mod Session
+pub mod Run
+pub mod Ends
+pub mod Shown
+pub mod One
+pub mod Piece
+pub mod Sent

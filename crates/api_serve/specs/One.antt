@@ -1,0 +1,52 @@
+-- One request, and one line. Only the crate's private clauses cite it.
+use Rattle.std.specs.Prelude.{◌≡◌, ◌⊎◌, ℕ, ℤ, List, [], ◌∷◌, ◌++◌, Option}
+use Rattle.std.specs.Option.{ForSome}
+use Rattle.reply_env.specs.declared.request.Request.{Request}
+use Rattle.store_core.specs.State.{State}
+use Rattle.cmd_tasks.specs.Session.{Exchange, IsSession}
+use Rattle.cmd_tasks.specs.Session.{Asking, asks_for}
+use Rattle.cmd_grammar.specs.Commands.{CommandTree}
+use Rattle.reply_env.specs.Reply.{IsRefusal}
+use Rattle.reply_env.specs.declared.reply.ErrorItem.{ErrorItem}
+use Rattle.reply_env.specs.declared.reply.Reply.TheVariants.{NoMemory}
+use Rattle.api_serve.specs.Answered.{IsAskedBy}
+use Rattle.api_serve.specs.Session.{Service, Serving}
+use Rattle.api_serve.specs.Run.{Serves}
+use Rattle.store_core.specs.declared.entry.Entry.{Entry}
+use Rattle.api_serve.specs.declared.one.Answered.{Answered}
+
+-- a session takes one more exchange
+abbrev pub Extends : Option State → ℕ → List Entry → List Entry → Exchange → Type 0
+Extends start session before after x = ForSome start (λ base. (earlier : List Exchange) → IsSession base before session earlier → IsSession base after session (earlier ++ x ∷ []))
+
+-- the reply and the trace are those of an exchange that asks this
+abbrev pub exchange_of : Asking → Answered → Exchange
+exchange_of asking answered = record { asking = asking; moment = answered.trace.moment; trace = answered.trace.items.items; reply = answered.reply }
+
+-- nothing was served: memory was wanting
+pub record IsUnserved (moment : ℤ) (answered : Answered) : Type 0 where
+  pub moment_is : answered.trace.moment ≡ moment
+  pub trace : answered.trace.items.items ≡ []
+  pub reply : answered.reply ≡ NoMemory 0
+
+-- it was refused by itself, by this error
+pub record IsRefusedAs (moment : ℤ) (error : ErrorItem) (answered : Answered) : Type 0 where
+  pub moment_is : answered.trace.moment ≡ moment
+  pub trace : answered.trace.items.items ≡ []
+  pub reply : IsRefusal error answered.reply ⊎ (answered.reply ≡ NoMemory 0)
+
+-- the command was served as one more exchange of the session
+pub record Performs (session : ℕ) (coll : List ℕ) (command : CommandTree) (moment : ℤ) (start : Option State) (before after : List Entry) (answered : Answered) : Type 0 where
+  pub moment_is : answered.trace.moment ≡ moment
+  pub session_is : Extends start session before after (exchange_of (asks_for coll command) answered)
+
+-- the request was served as one more exchange of the session
+pub record Answers (keyspace : List ℕ) (session : ℕ) (moment : ℤ) (request : Request) (start : Option State) (before after : List Entry) (answered : Answered) : Type 0 where
+  pub asking : Asking
+  pub asked : IsAskedBy keyspace request asking
+  pub moment_is : answered.trace.moment ≡ moment
+  pub session_is : Extends start session before after (exchange_of asking answered)
+
+-- memory ran out before the line's request was served, or before its reply was printed
+abbrev pub CutShort : Service → List ℕ → Serving → Serving → Type 0
+CutShort service line before after = (after ≡ before) ⊎ ((output : List ℕ) × Serves service before (line ∷ []) output after)

@@ -1,0 +1,222 @@
+//! One request of a session.
+ghost use Rattle.std.specs.Prelude.{◌≡◌, ◌++◌, ◌∷◌, ◌<◌, ◌⊎◌, ℕ, ℤ, List, [], IfOk, OnOk, OnErr, Err, IfSome, Some};
+ghost use Rattle.std.specs.Option.{ForSome};
+ghost use Rattle.reply_env.specs.Reply.{reply_text};
+ghost use Rattle.cmd_tasks.specs.Session.{Exchange, IsSession};
+ghost use Rattle.store_core.specs.Counts.{opened_in};
+ghost use Rattle.store_core.specs.Store.{IsLawful, SameBase};
+ghost use Rattle.api_serve.specs.Grown.{Grown};
+ghost use Rattle.api_serve.specs.Answered.{IsAskedBy, IsTraceOf};
+ghost use Rattle.api_serve.specs.Session.{Makes, Service};
+ghost use Rattle.api_serve.specs.Shown.{service_of, serving_of};
+ghost use Rattle.api_serve.specs.Request.{IsRightLine};
+ghost use Rattle.api_serve.specs.Run.{Serves};
+ghost use Rattle.cmd_grammar.specs.Commands.{command_tree, IsAskable};
+ghost use Rattle.api_serve.specs.One.{Answers, Performs, IsUnserved, IsRefusedAs, CutShort};
+
+use crate::request::{is_skipped, request_of};
+use cmd_grammar::{Command, CommandFault, read_request};
+use cmd_tasks::{Served, Task, Trace, a_request_begins, serve};
+use col_keeper::Keeper;
+use outside_io::{Clock, NoMemory};
+use doc_paths::CollName;
+use json_tree::Text;
+use name_tables::Code;
+use reply_env::{ErrorItem, Reply, Request, print_reply, refusal};
+use std::alloc::Global;
+use store_core::Store;
+
+/// A request that was served: its reply, and the trace of its steps.
+#[derive(Drop)]
+pub struct Answered {
+    pub reply: Reply,
+    pub trace: Trace,
+}
+
+/// Why a line isn't served.
+#[derive(Clone, Copy, Debug, PartialEq, Eq)]
+pub enum LineStop {
+    /// The line isn't of its form.
+    Wrong,
+    NoMemory,
+}
+
+// A request of which nothing was read: memory was wanting.
+fn unread(moment: i64, alloc: Global) -> Answered
+    ensures { IsUnserved moment result }
+{
+    Answered {
+        reply: Reply::NoMemory { accepted: 0 },
+        trace: Trace::new(alloc, moment),
+    }
+}
+
+// A request that is refused by itself.
+fn refused(moment: i64, alloc: Global, code: Code, message: Text) -> Answered
+    ensures { IsRefusedAs moment (record { code = code; message = message }) result }
+{
+    let trace = Trace::new(alloc, moment);
+    match refusal(alloc, ErrorItem { code, message }) {
+        Ok(reply) => Answered { reply, trace },
+        Err(_) => Answered {
+            reply: Reply::NoMemory { accepted: 0 },
+            trace,
+        },
+    }
+}
+
+// The collection of a request's path.
+fn collection_of(alloc: Global, request: &Request) -> Option<CollName>
+    ensures { IfSome result (λ coll. request.now.place.collection ≡ Some coll) }
+{
+    let Some(name) = &request.place.collection else {
+        return None;
+    };
+    match CollName::read(alloc, name.as_str()) {
+        Ok(coll) => Some(coll),
+        Err(_) => None,
+    }
+}
+
+// Serves a command to its end.
+fn perform<K: Keeper>(
+    alloc: Global,
+    session: u64,
+    coll: CollName,
+    moment: i64,
+    command: Command,
+    store: &mut Store<K>,
+) -> Answered
+    requires known { session < opened_in store.old.journal }
+    requires ready { IsAskable (command_tree command) }
+    ensures performs { Performs session coll (command_tree command) moment store.old.start store.old.journal store.new.journal result }
+    ensures grown { Grown session store.old.journal (K.failed store.old.keeper) store.new.journal (K.failed store.new.keeper) }
+    ensures base { SameBase store.old store.new }
+    ensures lawful { IsLawful store.new }
+{
+    let task = Task::new(alloc, session, coll, moment, command);
+    let Served { reply, trace } = serve(alloc, store, task);
+    Answered { reply, trace }
+}
+
+// Serves a request to its end.
+fn answer<K: Keeper>(
+    alloc: Global,
+    keyspace: &str,
+    session: u64,
+    moment: i64,
+    request: &Request,
+    store: &mut Store<K>,
+) -> Answered
+    requires known { session < opened_in store.old.journal }
+    ensures answers { Answers keyspace.now session moment request.now store.old.start store.old.journal store.new.journal result }
+    ensures grown { Grown session store.old.journal (K.failed store.old.keeper) store.new.journal (K.failed store.new.keeper) }
+    ensures base { SameBase store.old store.new }
+    ensures lawful { IsLawful store.new }
+{
+    store.journal_len();
+    a_request_begins();
+    let command = match read_request(alloc, keyspace, request) {
+        Ok(command) => command,
+        Err(CommandFault::Refused { code, message }) => {
+            return refused(moment, alloc, code, message);
+        }
+        Err(CommandFault::NoMemory) => return unread(moment, alloc),
+    };
+    match collection_of(alloc, request) {
+        Some(coll) => perform(alloc, session, coll, moment, command, store),
+        None => unread(moment, alloc),
+    }
+}
+
+// Serves a request at the clock's time, and keeps its trace.
+fn serve_request<K: Keeper, C: Clock>(
+    alloc: Global,
+    keyspace: &str,
+    session: u64,
+    request: &Request,
+    store: &mut Store<K>,
+    clock: &mut C,
+    traces: &mut Vec<Trace>,
+) -> Result<Reply, NoMemory>
+    requires known { session < opened_in store.old.journal }
+    ensures made { IfOk result (λ reply. (x : Exchange) × (x.reply ≡ reply) × IsAskedBy keyspace.now request.now x.asking
+        × Makes (service_of keyspace.now store.old.start session)
+        (serving_of store.old.journal (K.failed store.old.keeper) traces.old.items (C.times clock.old)) (x ∷ [])
+        (serving_of store.new.journal (K.failed store.new.keeper) traces.new.items (C.times clock.new))) }
+    ensures kept { OnErr result (serving_of store.new.journal (K.failed store.new.keeper) traces.new.items (C.times clock.new)
+        ≡ serving_of store.old.journal (K.failed store.old.keeper) traces.old.items (C.times clock.old)) }
+    ensures base { SameBase store.old store.new }
+    ensures known { session < opened_in store.new.journal }
+    ensures lawful { IsLawful store.new }
+{
+    store.journal_len();
+    if traces.reserve(1).is_err() {
+        return Err(NoMemory);
+    }
+    let moment = clock.now_ms();
+    let Answered { reply, trace } = answer(alloc, keyspace, session, moment, request, store);
+    traces.push_reserved(trace);
+    Ok(reply)
+}
+
+// Appends a reply, and an LF.
+fn add_line(alloc: Global, reply: &Reply, out: &mut Vec<u8>) -> Result<(), NoMemory>
+    ensures added { OnOk result (out.new.items ≡ out.old.items ++ (reply_text reply.now ++ 10 ∷ [])) }
+    ensures kept { OnErr result (out.new.items ≡ out.old.items) }
+{
+    let len = out.len();
+    let Ok(()) = print_reply(alloc, reply, out) else {
+        return Err(NoMemory);
+    };
+    if out.push(b'\n').is_err() {
+        out.truncate(len);
+        return Err(NoMemory);
+    }
+    Ok(())
+}
+
+/// Serves one line, without its LF, keeps its trace, and appends its reply.
+pub fn serve_line<K: Keeper, C: Clock>(
+    alloc: Global,
+    keyspace: &str,
+    session: u64,
+    line: &[u8],
+    store: &mut Store<K>,
+    clock: &mut C,
+    traces: &mut Vec<Trace>,
+    out: &mut Vec<u8>,
+) -> Result<(), LineStop>
+    requires known { session < opened_in store.old.journal }
+    ensures served { OnOk result ((output : List ℕ) × (out.new.items ≡ out.old.items ++ output)
+        × Serves (service_of keyspace.now store.old.start session)
+        (serving_of store.old.journal (K.failed store.old.keeper) traces.old.items (C.times clock.old)) (line.now ∷ []) output
+        (serving_of store.new.journal (K.failed store.new.keeper) traces.new.items (C.times clock.new))) }
+    ensures wrong { result ≡ Err LineStop.Wrong → (IsRightLine line.now → ⊥)
+        × (serving_of store.new.journal (K.failed store.new.keeper) traces.new.items (C.times clock.new)
+        ≡ serving_of store.old.journal (K.failed store.old.keeper) traces.old.items (C.times clock.old)) }
+    ensures short { result ≡ Err LineStop.NoMemory → CutShort (service_of keyspace.now store.old.start session) line.now
+        (serving_of store.old.journal (K.failed store.old.keeper) traces.old.items (C.times clock.old))
+        (serving_of store.new.journal (K.failed store.new.keeper) traces.new.items (C.times clock.new)) }
+    ensures kept { OnErr result (out.new.items ≡ out.old.items) }
+    ensures base { SameBase store.old store.new }
+    ensures known { session < opened_in store.new.journal }
+    ensures lawful { IsLawful store.new }
+{
+    store.journal_len();
+    if is_skipped(line) {
+        return Ok(());
+    }
+    let request = match request_of(alloc, line) {
+        Ok(Some(request)) => request,
+        Ok(None) => return Err(LineStop::Wrong),
+        Err(_) => return Err(LineStop::NoMemory),
+    };
+    match serve_request(alloc, keyspace, session, &request, store, clock, traces) {
+        Ok(reply) => match add_line(alloc, &reply, out) {
+            Ok(()) => Ok(()),
+            Err(_) => Err(LineStop::NoMemory),
+        },
+        Err(_) => Err(LineStop::NoMemory),
+    }
+}

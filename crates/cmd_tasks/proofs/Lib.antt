@@ -1,0 +1,11 @@
+mod Extension
+mod Sessions
+mod Schedules
+mod Listing
+mod Ranks
+mod Lasts
+mod Glances
+mod Requests
+mod Standing
+mod Running
+mod Opening

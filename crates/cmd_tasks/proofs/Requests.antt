@@ -1,0 +1,308 @@
+-- How each command goes on, or is answered.
+use Rattle.std.proofs.Common.{◌≡◌, ◌≢◌, ℕ, ◌+◌, ◌<◌, ◌≤◌, List, [], ◌∷◌, ◌++◌, map, take, length, true, false, ◌-◌, ◌^◌, Option, Some, None, refl, sym, ap, ◌∙◌, subst, arith, inl, inr, length-append, Vec, Global, leb, ◌⊎◌, ⊎_elim}
+use Rattle.std.specs.Prelude.{nat_le, if◌then◌else◌, IfSome, slice_get}
+use Rattle.std.specs.Option.{option_map}
+use Rattle.std.proofs.lemmas.List.{length-map}
+use Rattle.std.proofs.lemmas.Bool.{leb-true}
+use Rattle.std.proofs.lemmas.Bool.Decides.{leb_tells}
+use Rattle.outside_io.specs.Causes.{Rose}
+use Rattle.json_tree.specs.Tree.{Tree}
+use Rattle.json_tree.specs.View.{tree}
+use Rattle.json_tree.specs.declared.value.Value.{Value}
+use Rattle.shred_cols.specs.Row.{Version, id_of}
+use Rattle.shred_cols.specs.Rows.{Rows, first}
+use Rattle.col_keeper.specs.Tables.{Name}
+use Rattle.filter_tree.specs.Filters.{FilterTree}
+use Rattle.filter_tree.specs.View.{filter_tree}
+use Rattle.reply_env.specs.Messages as errors
+use Rattle.reply_env.specs.Reply.{IsRefusal}
+use Rattle.reply_env.specs.declared.reply.ErrorItem.{ErrorItem}
+use Rattle.reply_env.specs.declared.reply.Reply.{Reply}
+use Rattle.reply_env.specs.declared.reply.Reply.TheVariants.{NoMemory}
+use Rattle.store_core.specs.State.{State as Base, IsGone, number_at}
+use Rattle.store_core.specs.Journal.{replay}
+use Rattle.store_core.specs.declared.entry.Entry.{Entry}
+use Rattle.store_core.specs.declared.entry.Entry.TheVariants.{Changed, Failed}
+use Rattle.store_core.specs.declared.entry.Change.TheVariants.{Insert}
+use Rattle.cmd_grammar.specs.Commands.{CommandTree, insert_one, find_one, count_documents}
+use Rattle.cmd_tasks.specs.Trace.{Sight, sight, shown, shown_by, IsLook, GoesOn, Looks}
+use Rattle.cmd_tasks.specs.Served.{IsPartOf, Serves, Stops, IsStopped, Marks, IsToWrite, IsInserted, IsTaken, TellsInserted, TellsFound, counted, accepted, one_if_wrote}
+use Rattle.cmd_tasks.specs.Pages.{found_row}
+use Rattle.cmd_tasks.specs.Wanted.{IsWanted}
+use Rattle.cmd_tasks.specs.Moves.{Made, GoesUp, Glances, Steps, Sees, StopsSo, Leads, IsBegun, IsUnderWay, Selects, EndsSo, EndsMarked, ShowsNothing, StopsWith, Finds, Refuses, count_to, IsLooked}
+use Rattle.cmd_tasks.specs.declared.trace.Item.{Item}
+use Rattle.cmd_tasks.specs.declared.trace.Item.TheVariants.{Looked, Wrote, Lost, Faulted}
+use Rattle.cmd_tasks.specs.declared.work.Wanted.{Wanted}
+use Rattle.cmd_tasks.specs.declared.work.State.{State}
+use Rattle.cmd_tasks.specs.declared.work.State.TheVariants.{Inserting, Selecting, Counting}
+use Rattle.cmd_tasks.specs.declared.work.Moved.{Moved}
+use Rattle.cmd_tasks.specs.declared.work.Moved.TheVariants as m
+use Rattle.cmd_tasks.specs.declared.work.Glance.{Glance}
+use Rattle.cmd_tasks.specs.declared.work.Glance.TheVariants as g
+use Rattle.cmd_tasks.proofs.Glances.{saw, saw_before, saw_entry, lost_here, looked_here, failed_here}
+
+-- ---- what a step is, told or not
+
+pub select_steps : (k low high : ℕ) (H H' : List Entry) (w : Wanted) (last : Option Tree) (item : Item) (page : Vec Version Global) (rows : List Version) (up : Option Tree) (o : Moved)
+    → IsWanted w → Glances k low high last H H' (g.Shown item page up) → Selects w item rows up o → Steps k low high (Selecting w last) H H' o
+select_steps k low high H H' w last item page (v ∷ rows) up (m.Goes i s) wanted h is = absurd is
+select_steps k low high H H' w last item page (v ∷ rows) up (m.Ends i r) wanted h is = subst (λ z. Steps k low high (Selecting w last) H H' (m.Ends z r)) (sym is.0) h.0
+select_steps k low high H H' w last item page (v ∷ rows) up m.NoMemory wanted h is = absurd is
+select_steps k low high H H' w last item page [] None (m.Goes i s) wanted h is = absurd is
+select_steps k low high H H' w last item page [] None (m.Ends i r) wanted h is = subst (λ z. Steps k low high (Selecting w last) H H' (m.Ends z r)) (sym is.0) h.0
+select_steps k low high H H' w last item page [] None m.NoMemory wanted h is = absurd is
+select_steps k low high H H' w last item page [] (Some u) o wanted h is = subst (Steps k low high (Selecting w last) H H') (sym is) (h.0, refl, wanted, h.1)
+
+same_some : {A : Type 0} (a b : A) → Some a ≡ Some b → a ≡ b
+same_some a b e = cc
+
+-- a page with a first row
+pub first_taken : (w : Wanted) (item : Item) (rows : List Version) (up : Option Tree) (o : Moved) (v : Version) → slice_get rows 0 ≡ Some v → EndsSo item (Finds (Some v.doc)) o → Selects w item rows up o
+first_taken w item [] up o v e h = cc
+first_taken w item (x ∷ page) up o v e h = subst (λ (y : Version). EndsSo item (Finds (Some y.doc)) o) (sym (same_some x v e)) h
+
+-- a page with none
+pub none_taken : (w : Wanted) (item : Item) (rows : List Version) (up : Option Tree) (o : Moved) → slice_get rows 0 ≡ None → Selects w item [] up o → Selects w item rows up o
+none_taken w item [] up o e h = h
+none_taken w item (x ∷ page) up o e h = cc
+
+few : (n : ℕ) → leb 1001 n ≡ false → ((leb 1001 n ≡ true) × (1001 ≤ n)) ⊎ ((leb 1001 n ≡ false) × (n < 1001)) → n < 1001
+few n e z = ⊎_elim (λ q. absurd (no (sym e ∙ q.0))) (λ q. q.1) z
+  where
+    no : false ≡ true → ⊥
+    no e = cc
+
+pub count_steps : (k low high : ℕ) (H H' : List Entry) (w : Wanted) (last : Option Tree) (n n' : ℕ) (item : Item) (page : Vec Version Global) (up : Option Tree)
+    → IsWanted w → Glances k low high last H H' (g.Shown item page up) → Steps k low high (Counting w last n) H H' (count_to w item n' up)
+count_steps k low high H H' w last n n' item page None wanted h = h.0
+count_steps k low high H H' w last n n' item page (Some u) wanted h =
+    elim (nat_le 1001 n') as (λ t. nat_le 1001 n' ≡ t → Steps k low high (Counting w last n) H H' (if t then m.Ends item (counted n') else m.Goes item (Counting w (Some u) n'))) [
+      | true ↦ λ e. h.0
+      | false ↦ λ e. (h.0, refl, (wanted, few n' e (leb_tells 1001 n')), h.1)
+    ] refl
+
+pub taken_steps : (k low high : ℕ) (H H' : List Entry) (w : State) (at tx : ℕ) (P : Reply → Type 0) (o : Moved) → H' ≡ H → at ≡ length H → EndsSo (Lost at 0 (Some tx)) P o → Steps k low high w H H' o
+taken_steps k low high H H' w at tx P (m.Goes i s) same here is = absurd is
+taken_steps k low high H H' w at tx P (m.Ends i r) same here is = subst (Made k low high H H') (sym is.0) (lost_here k low high H H' at (Some tx) same here)
+taken_steps k low high H H' w at tx P m.NoMemory same here is = absurd is
+
+pub marked_steps : (k low high : ℕ) (H H' : List Entry) (w : State) (at : ℕ) (after up : Option Tree) (P : Reply → Type 0) (o : Moved) → H' ≡ H → at ≡ length H → EndsMarked at after up P o → Steps k low high w H H' o
+marked_steps k low high H H' w at after up P (m.Goes i s) same here is = absurd is
+marked_steps k low high H H' w at after up P (m.Ends i r) same here is = looked_here k low high H H' i at after up [] same here is.0
+marked_steps k low high H H' w at after up P m.NoMemory same here is = absurd is
+
+pub failed_steps : (k low high : ℕ) (H H' : List Entry) (w : State) (at before count : ℕ) (P : Reply → Type 0) (o : Moved) → H' ≡ H ++ Failed k before count ∷ [] → at ≡ length H → Rose before count → before ≡ low → count ≡ high
+    → EndsSo (Faulted at before count) P o → Steps k low high w H H' o
+failed_steps k low high H H' w at before count P (m.Goes i s) longer here rose low_is high_is is = absurd is
+failed_steps k low high H H' w at before count P (m.Ends i r) longer here rose low_is high_is is = subst (Made k low high H H') (sym is.0) (failed_here k low high H H' at before count longer here rose low_is high_is)
+failed_steps k low high H H' w at before count P m.NoMemory longer here rose low_is high_is is = absurd is
+
+-- no number was read, and so one was found
+pub found_one : (found : Option ℕ) → found ≢ None → (tx : ℕ) × (found ≡ Some tx)
+found_one None n = absurd (n refl)
+found_one (Some tx) n = (tx, refl)
+
+-- ---- what it means for the request, where told
+
+module _ (base : Base) (coll : Name) (k : ℕ) where
+  looks_wrote : (f : FilterTree) (r : Rows) (from : Option Tree) (i : Item) → Looks base coll f r from i → one_if_wrote i ≡ 0
+  looks_wrote f r from (Looked at after up shown) h = refl
+  looks_wrote f r from (Wrote at) h = absurd h
+  looks_wrote f r from (Lost at read found) h = absurd h
+  looks_wrote f r from (Faulted at before count) h = absurd h
+
+  find_accepts : (f : FilterTree) (s : List Sight) → IsPartOf base coll k (find_one f) s → accepted s ≡ 0
+  find_accepts f [] h = refl
+  find_accepts f (s ∷ earlier) h = let a = find_accepts f earlier h.0 in let b = looks_wrote f _ _ s.item h.2.1 in omega arith
+
+  count_accepts : (f : FilterTree) (s : List Sight) → IsPartOf base coll k (count_documents f) s → accepted s ≡ 0
+  count_accepts f [] h = refl
+  count_accepts f (s ∷ earlier) h = let a = count_accepts f earlier h.0 in let b = looks_wrote f _ _ s.item h.2.1 in omega arith
+
+  accepts : (c : CommandTree) (s : List Sight) → IsBegun base coll k c s → accepted s ≡ 0
+  accepts (insert_one d) s h = ap accepted h.1
+  accepts (find_one f) s h = find_accepts f s h.0
+  accepts (count_documents f) s h = count_accepts f s h.0
+
+  -- a request that is under way may end for want of memory
+  pub cut_off : (c : CommandTree) (s : List Sight) → IsBegun base coll k c s → Serves base coll k c s (NoMemory 0)
+  cut_off c s h = inr (inr (inl h.0, ap NoMemory (sym (accepts c s h))))
+
+  stops_wrote : (marks : Option Tree → Option Tree → Type 0) (to_write : Type 0) (i : Item) (s : Sight) (error : ErrorItem) → Stops base coll k marks to_write i s error → one_if_wrote i ≡ 0
+  stops_wrote marks to_write (Looked at after up shown) s error h = refl
+  stops_wrote marks to_write (Wrote at) s error h = absurd h
+  stops_wrote marks to_write (Lost at read found) s error h = absurd h
+  stops_wrote marks to_write (Faulted at before count) s error h = refl
+
+  -- a request that stops at an item, whether its error was told or memory was wanting
+  pub stopped_serves : (c : CommandTree) (earlier : List Sight) (s : Sight) (error : ErrorItem) (reply : Reply) → IsBegun base coll k c earlier
+      → Stops base coll k (Marks base coll k c earlier) (IsToWrite base coll k c earlier) s.item s error → Refuses error reply → Serves base coll k c (s ∷ earlier) reply
+  stopped_serves c earlier s error reply begun stops refuses = ⊎_elim
+      (λ (r : IsRefusal error reply). inr (inl (error, (begun.0, begun.1, stops), r)))
+      (λ (e : reply ≡ NoMemory 0). let a = accepts c earlier begun in let b = stops_wrote _ _ s.item s error stops in let z : 0 ≡ one_if_wrote s.item + accepted earlier = omega arith in inr (inr (inr (error, (begun.0, begun.1, stops)), e ∙ ap NoMemory z)))
+      refuses
+
+  pub failed_serves : (c : CommandTree) (earlier : List Sight) (H H' : List Entry) (at before count : ℕ) (reply : Reply) → IsBegun base coll k c earlier → H' ≡ H ++ Failed k before count ∷ [] → at ≡ length H
+      → Refuses (errors.store_fault before count) reply → Serves base coll k c (sight H' (Faulted at before count) ∷ earlier) reply
+  failed_serves c earlier H H' at before count reply begun longer here refuses = stopped_serves c earlier (sight H' (Faulted at before count)) (errors.store_fault before count) reply begun (saw_entry H H' (Failed k before count) at longer here, refl) refuses
+
+  -- ---- insertOne
+
+  pub insert_serves : (d : Tree) (earlier : List Sight) (H H' : List Entry) (at tx : ℕ) (reply : Reply) → IsBegun base coll k (insert_one d) earlier → H' ≡ H ++ Changed k coll (id_of d) (Insert d) None tx ∷ [] → at ≡ length H
+      → number_at (replay base H) coll (id_of d) ≡ None → TellsInserted (id_of d) reply → Serves base coll k (insert_one d) (sight H' (Wrote at) ∷ earlier) reply
+  insert_serves d earlier H H' at tx reply begun longer here absent tells =
+      let e : Entry = Changed k coll (id_of d) (Insert d) None tx in
+      let past = saw_before H H' e at longer here in
+      let made : IsInserted base coll k d (sight H' (Wrote at)) = record {
+        absent = ap (λ (l : List Entry). number_at (replay base l) coll (id_of d)) past ∙ absent;
+        wrote = (ap Wrote (here ∙ sym (ap length past)), (tx, saw_entry H H' e at longer here));
+      } in
+      inl ((begun.0, begun.1, inl made), inl (made, tells))
+
+  taken_serves : (d : Tree) (earlier : List Sight) (s : Sight) (tx : ℕ) (reply : Reply) → IsBegun base coll k (insert_one d) earlier → IsTaken base coll k d tx s
+      → Refuses (errors.already_exists (id_of d) tx) reply → Serves base coll k (insert_one d) (s ∷ earlier) reply
+  taken_serves d earlier s tx reply begun taken refuses = ⊎_elim
+      (λ (r : IsRefusal (errors.already_exists (id_of d) tx) reply). inl ((begun.0, begun.1, inr (tx, taken)), inr (tx, taken, r)))
+      (λ (e : reply ≡ NoMemory 0). let a = accepts (insert_one d) earlier begun in let b : one_if_wrote s.item ≡ 0 = ap one_if_wrote taken.item in let z : 0 ≡ one_if_wrote s.item + accepted earlier = omega arith in
+      inr (inr (inl (begun.0, begun.1, inr (tx, taken)), e ∙ ap NoMemory z)))
+      refuses
+
+  pub lost_leads : (d : Value) (earlier : List Sight) (H H' : List Entry) (at tx : ℕ) (found : Option ℕ) (o : Moved) → IsUnderWay base coll k (Inserting d) earlier → H' ≡ H → at ≡ length H
+      → found ≡ Some tx → number_at (replay base H) coll (id_of (tree d)) ≡ found → EndsSo (Lost at 0 (Some tx)) (Refuses (errors.already_exists (id_of (tree d)) tx)) o → Leads base coll k H' (Inserting d) earlier o
+  lost_leads d earlier H H' at tx found (m.Goes i w) way same here is there o_is = absurd o_is
+  lost_leads d earlier H H' at tx found (m.Ends i r) way same here is there o_is =
+      let past = saw H H' at same here in
+      let taken : IsTaken base coll k (tree d) tx (sight H' (Lost at 0 (Some tx))) = record {
+        item = ap (λ n. Lost n 0 (Some tx)) (here ∙ sym (ap length past));
+        there = ap (λ (l : List Entry). number_at (replay base l) coll (id_of (tree d))) past ∙ there ∙ is;
+      } in
+      subst (λ z. Serves base coll k (insert_one (tree d)) (sight H' z ∷ earlier) r) (sym o_is.0) (taken_serves (tree d) earlier (sight H' (Lost at 0 (Some tx))) tx r way.0 taken o_is.1)
+  lost_leads d earlier H H' at tx found m.NoMemory way same here is there o_is = absurd o_is
+
+  -- a mark in the place of the write
+  pub mark_serves : (d : Tree) (earlier : List Sight) (H H' : List Entry) (at : ℕ) (item : Item) (error : ErrorItem) (reply : Reply) → IsBegun base coll k (insert_one d) earlier → H' ≡ H → at ≡ length H
+      → IsLooked item at (Some (id_of d)) (Some (id_of d)) [] → (IsGone coll (replay base H) × (error ≡ errors.no_collection coll)) ⊎ (((replay base H).next ≡ 2 ^ 63 - 1) × (error ≡ errors.versions_spent))
+      → Refuses error reply → Serves base coll k (insert_one d) (sight H' item ∷ earlier) reply
+  mark_serves d earlier H H' at (Looked a from to pairs) error reply begun same here is cause refuses =
+      let past : take a H' ≡ H = saw H H' a same (is.0 ∙ here) in
+      let back : replay base H ≡ replay base (take a H') = ap (replay base) (sym past) in
+      stopped_serves (insert_one d) earlier (sight H' (Looked a from to pairs)) error reply begun
+      ((is.1, is.2), is.3, ⊎_elim (λ z. inl (subst (IsGone coll) back z.0, z.1)) (λ z. inr (tt, subst (λ (s : Base). s.next ≡ 2 ^ 63 - 1) back z.0, z.1)) cause) refuses
+  mark_serves d earlier H H' at (Wrote a) error reply begun same here is cause refuses = absurd is
+  mark_serves d earlier H H' at (Lost a read f) error reply begun same here is cause refuses = absurd is
+  mark_serves d earlier H H' at (Faulted a b c) error reply begun same here is cause refuses = absurd is
+
+  pub marked_leads : (d : Value) (earlier : List Sight) (H H' : List Entry) (at : ℕ) (key twin : Tree) (error : ErrorItem) (o : Moved) → key ≡ id_of (tree d) → twin ≡ id_of (tree d) → IsUnderWay base coll k (Inserting d) earlier → H' ≡ H → at ≡ length H
+      → (IsGone coll (replay base H) × (error ≡ errors.no_collection coll)) ⊎ (((replay base H).next ≡ 2 ^ 63 - 1) × (error ≡ errors.versions_spent))
+      → EndsMarked at (Some key) (Some twin) (Refuses error) o → Leads base coll k H' (Inserting d) earlier o
+  marked_leads d earlier H H' at key twin error (m.Goes i w) key_is twin_is way same here cause is = absurd is
+  marked_leads d earlier H H' at key twin error (m.Ends i r) key_is twin_is way same here cause is =
+      mark_serves (tree d) earlier H H' at i error r way.0 same here (subst (λ (t : Tree). IsLooked i at (Some (id_of (tree d))) (Some t) []) twin_is (subst (λ (t : Tree). IsLooked i at (Some t) (Some twin) []) key_is is.0)) cause is.1
+  marked_leads d earlier H H' at key twin error m.NoMemory key_is twin_is way same here cause is = absurd is
+
+  pub failed_leads : (d : Value) (earlier : List Sight) (H H' : List Entry) (at before count : ℕ) (o : Moved) → IsUnderWay base coll k (Inserting d) earlier → H' ≡ H ++ Failed k before count ∷ [] → at ≡ length H
+      → EndsSo (Faulted at before count) (Refuses (errors.store_fault before count)) o → Leads base coll k H' (Inserting d) earlier o
+  failed_leads d earlier H H' at before count (m.Goes i w) way longer here is = absurd is
+  failed_leads d earlier H H' at before count (m.Ends i r) way longer here is =
+      subst (λ (z : Item). Serves base coll k (insert_one (tree d)) (sight H' z ∷ earlier) r) (sym is.0) (failed_serves (insert_one (tree d)) earlier H H' at before count r way.0 longer here is.1)
+  failed_leads d earlier H H' at before count m.NoMemory way longer here is = absurd is
+
+  -- a listing at a point where the collection doesn't live
+  pub gone_stops : (last : Option Tree) (H H' : List Entry) (at : ℕ) (item : Item) (reply : Reply) → H' ≡ H → at ≡ length H → IsLooked item at last None [] → IsGone coll (replay base H)
+      → Refuses (errors.no_collection coll) reply → StopsSo base coll k H' last item reply
+  gone_stops last H H' at (Looked a from to pairs) reply same here is gone refuses =
+      let past : take a H' ≡ H = saw H H' a same (is.0 ∙ here) in
+      (errors.no_collection coll, ((is.1, is.2), is.3, inl (subst (IsGone coll) (ap (replay base) (sym past)) gone, refl)), refuses)
+  gone_stops last H H' at (Wrote a) reply same here is gone refuses = absurd is
+  gone_stops last H H' at (Lost a read f) reply same here is gone refuses = absurd is
+  gone_stops last H H' at (Faulted a b c) reply same here is gone refuses = absurd is
+
+  pub fault_stops : (last : Option Tree) (H H' : List Entry) (at before count : ℕ) (reply : Reply) → H' ≡ H ++ Failed k before count ∷ [] → at ≡ length H
+      → Refuses (errors.store_fault before count) reply → StopsSo base coll k H' last (Faulted at before count) reply
+  fault_stops last H H' at before count reply longer here refuses = (errors.store_fault before count, (saw_entry H H' (Failed k before count) at longer here, refl), refuses)
+
+  pub gone_sees : (last : Option Tree) (H H' : List Entry) (f : FilterTree) (at : ℕ) (o : Glance) → H' ≡ H → at ≡ length H → IsGone coll (replay base H)
+      → ShowsNothing at last (Refuses (errors.no_collection coll)) o → Sees base coll k H' f last o
+  gone_sees last H H' f at (g.Shown item rs up) same here gone is = absurd is
+  gone_sees last H H' f at (g.Ended item r) same here gone is = gone_stops last H H' at item r same here is.0 gone is.1
+  gone_sees last H H' f at g.NoMemory same here gone is = absurd is
+
+  pub fault_sees : (last : Option Tree) (H H' : List Entry) (f : FilterTree) (at before count : ℕ) (o : Glance) → H' ≡ H ++ Failed k before count ∷ [] → at ≡ length H
+      → StopsWith (Faulted at before count) (Refuses (errors.store_fault before count)) o → Sees base coll k H' f last o
+  fault_sees last H H' f at before count (g.Shown item rs up) longer here is = absurd is
+  fault_sees last H H' f at before count (g.Ended item r) longer here is =
+      subst (λ (i : Item). StopsSo base coll k H' last i r) (sym is.0) (fault_stops last H H' at before count r longer here is.1)
+  fault_sees last H H' f at before count g.NoMemory longer here is = absurd is
+
+  -- ---- listings
+
+  none_shown : (f : FilterTree) (sights : List Sight) → GoesOn base coll f 1 sights → shown base coll f sights ≡ []
+  none_shown f [] h = refl
+  none_shown f (s ∷ earlier) h = empty _ h.1
+    where
+      empty : {A : Type 0} (xs : List A) → length xs < 1 → xs ≡ []
+      empty [] l = refl
+      empty (x ∷ xs) l = absurd (omega arith)
+
+  pub select_ended : (w : Wanted) (last : Option Tree) (H' : List Entry) (earlier : List Sight) (item : Item) (r : Reply) → IsUnderWay base coll k (Selecting w last) earlier → StopsSo base coll k H' last item r
+      → Serves base coll k (find_one (filter_tree w.filter)) (sight H' item ∷ earlier) r
+  select_ended w last H' earlier item r way stops = stopped_serves (find_one (filter_tree w.filter)) earlier (sight H' item) stops.0 r way.0
+      (subst (λ (l : Option Tree). Stops base coll k (λ after up. (after ≡ l) × (up ≡ None)) ⊥ item (sight H' item) stops.0) way.1 stops.1) stops.2
+
+  pub count_ended : (w : Wanted) (last : Option Tree) (n : ℕ) (H' : List Entry) (earlier : List Sight) (item : Item) (r : Reply) → IsUnderWay base coll k (Counting w last n) earlier → StopsSo base coll k H' last item r
+      → Serves base coll k (count_documents (filter_tree w.filter)) (sight H' item ∷ earlier) r
+  count_ended w last n H' earlier item r way stops = stopped_serves (count_documents (filter_tree w.filter)) earlier (sight H' item) stops.0 r way.0
+      (subst (λ (l : Option Tree). Stops base coll k (λ after up. (after ≡ l) × (up ≡ None)) ⊥ item (sight H' item) stops.0) way.1.0 stops.1) stops.2
+
+  found_serves : (f : FilterTree) (s : Sight) (earlier : List Sight) (d : Option Tree) (r : Reply) → IsPartOf base coll k (find_one f) (s ∷ earlier)
+      → (TellsFound d r → Serves base coll k (find_one f) (s ∷ earlier) r) → Finds d r → Serves base coll k (find_one f) (s ∷ earlier) r
+  found_serves f s earlier d r part told finds = ⊎_elim told (λ e. inr (inr (inl part, e ∙ ap NoMemory (sym (find_accepts f (s ∷ earlier) part))))) finds
+
+  pub select_leads : (w : Wanted) (last : Option Tree) (H' : List Entry) (earlier : List Sight) (item : Item) (page : Vec Version Global) (rows : List Version) (up : Option Tree) (o : Moved) → page.items ≡ rows → IsUnderWay base coll k (Selecting w last) earlier
+      → Sees base coll k H' (filter_tree w.filter) last (g.Shown item page up) → Selects w item rows up o → Leads base coll k H' (Selecting w last) earlier o
+  select_leads w last H' earlier item page rows up o are way sees is = parts rows up o are sees part all is
+    where
+      f : FilterTree
+      f = filter_tree w.filter
+
+      s : Sight
+      s = sight H' item
+
+      part : IsPartOf base coll k (find_one f) (s ∷ earlier)
+      part = (way.0.0, way.0.1, subst (λ (l : Option Tree). IsLook base coll f l s) way.1 sees.0)
+
+      all : shown base coll f (s ∷ earlier) ≡ map found_row rows
+      all = (λ i. none_shown f earlier way.0.1 i ++ sees.1 i) ∙ ap (map found_row) are
+
+      parts : (rows' : List Version) (up' : Option Tree) (o' : Moved) → page.items ≡ rows' → Sees base coll k H' f last (g.Shown item page up') → IsPartOf base coll k (find_one f) (s ∷ earlier) → shown base coll f (s ∷ earlier) ≡ map found_row rows'
+          → Selects w item rows' up' o' → Leads base coll k H' (Selecting w last) earlier o'
+      parts (v ∷ vs) up' (m.Goes i z) a e p q h = absurd h
+      parts (v ∷ vs) up' (m.Ends i r) a e p q h = subst (λ x. Serves base coll k (find_one f) (sight H' x ∷ earlier) r) (sym h.0)
+          (found_serves f s earlier (Some v.doc) r p (λ t. inl (p, (inr (omega (arith, ap length q)), subst (λ d. TellsFound d r) (sym (ap (λ l. option_map (λ x. x.doc) (first l)) q)) t))) h.1)
+      parts (v ∷ vs) up' m.NoMemory a e p q h = absurd h
+      parts [] None (m.Goes i z) a e p q h = absurd h
+      parts [] None (m.Ends i r) a e p q h = subst (λ x. Serves base coll k (find_one f) (sight H' x ∷ earlier) r) (sym h.0)
+          (found_serves f s earlier None r p (λ t. inl (p, (inl e.2, subst (λ d. TellsFound d r) (sym (ap (λ l. option_map (λ x. x.doc) (first l)) q)) t))) h.1)
+      parts [] None m.NoMemory a e p q h = absurd h
+      parts [] (Some u) o' a e p q h = subst (Leads base coll k H' (Selecting w last) earlier) (sym h) ((p, (e.3, omega (arith, ap length q))), sym e.2)
+
+  pub count_leads : (w : Wanted) (last : Option Tree) (n n' : ℕ) (H' : List Entry) (earlier : List Sight) (item : Item) (page : Vec Version Global) (up : Option Tree) → n' ≡ n + length page.items → IsUnderWay base coll k (Counting w last n) earlier
+      → Sees base coll k H' (filter_tree w.filter) last (g.Shown item page up) → Leads base coll k H' (Counting w last n) earlier (count_to w item n' up)
+  count_leads w last n n' H' earlier item page up sum way sees = parts up sees (way.0.0, way.0.1, subst (λ (l : Option Tree). IsLook base coll f l s) way.1.0 sees.0) all
+    where
+      f : FilterTree
+      f = filter_tree w.filter
+
+      s : Sight
+      s = sight H' item
+
+      all : n' ≡ length (shown base coll f (s ∷ earlier))
+      all = let a = length-append (shown base coll f earlier) (shown_by base coll f s) in let b = ap length sees.1 in let c = length-map page.items found_row in let d = way.1.1 in omega arith
+
+      parts : (up' : Option Tree) → Sees base coll k H' f last (g.Shown item page up') → IsPartOf base coll k (count_documents f) (s ∷ earlier) → n' ≡ length (shown base coll f (s ∷ earlier))
+          → Leads base coll k H' (Counting w last n) earlier (count_to w item n' up')
+      parts None z part all' = inl (part, (inl z.2, ap counted all'))
+      parts (Some u) z part all' = elim (nat_le 1001 n') as (λ t. nat_le 1001 n' ≡ t → Leads base coll k H' (Counting w last n) earlier (if t then m.Ends item (counted n') else m.Goes item (Counting w (Some u) n'))) [
+        | true ↦ λ e. inl (part, (inr (let l = leb-true 1001 n' e in omega arith), ap counted all'))
+        | false ↦ λ e. ((part, (z.3, let l = few n' e (leb_tells 1001 n') in omega arith)), (sym z.2, all'))
+      ] refl

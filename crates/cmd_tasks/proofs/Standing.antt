@@ -1,0 +1,157 @@
+-- A step of a task, and the entries of others between two steps, keep where it stands.
+use Rattle.std.proofs.Common.{◌≡◌, ℕ, zero, suc, ◌+◌, ◌≤◌, List, [], ◌∷◌, ◌++◌, map, drop, reverse, length, Option, Some, refl, sym, ap, ◌∙◌, subst, arith, inl, inr, length-append, length-drop, Vec, Global}
+use Rattle.std.specs.Prelude.{IfSome}
+use Rattle.std.specs.Option.{ForSome}
+use Rattle.col_keeper.specs.Tables.{Name}
+use Rattle.store_core.specs.State.{State as Base}
+use Rattle.cmd_tasks.specs.Trace.{Sight, sight, point, IsWithin}
+use Rattle.cmd_tasks.specs.Served.{Serves, IsServed, sights}
+use Rattle.cmd_tasks.specs.Session.{AreWithin, places, written, NoWork, Records}
+use Rattle.store_core.specs.declared.entry.Entry.{Entry}
+use Rattle.cmd_grammar.specs.Commands.{CommandTree, command_tree}
+use Rattle.reply_env.specs.declared.reply.Reply.{Reply}
+use Rattle.reply_env.specs.declared.reply.Reply.TheVariants.{NoMemory}
+use Rattle.cmd_tasks.specs.declared.trace.Item.{Item}
+use Rattle.cmd_tasks.specs.declared.trace.Item.TheVariants.{Looked, Wrote, Lost, Faulted}
+use Rattle.cmd_tasks.proofs.Extension.{sights_more, within_longer, places_more}
+use Rattle.cmd_tasks.specs.declared.trace.Trace.{Trace}
+use Rattle.cmd_tasks.proofs.Requests.{cut_off}
+use Rattle.cmd_tasks.proofs.Sessions.{sights_snoc, ordered_snoc, within_snoc, written_snoc, places-append}
+use Rattle.cmd_tasks.specs.Moves.{Promises, asked, IsReady, Begins, Made, Steps, IsBegun, IsUnderWay}
+use Rattle.cmd_tasks.specs.Placed.{OwnFrom, IsPlaced}
+use Rattle.cmd_tasks.specs.Stands.{StandsOn, IfDone}
+use Rattle.cmd_tasks.specs.declared.task.Task.{Task}
+use Rattle.cmd_tasks.specs.declared.work.State.{State}
+use Rattle.cmd_tasks.specs.declared.work.State.TheVariants.{Inserting, Selecting, Counting, Done}
+use Rattle.cmd_tasks.specs.declared.work.Moved.TheVariants as m
+
+pub point_within : (n : ℕ) (i : Item) → IsWithin n i → point i ≤ n
+point_within n (Looked at after up shown) h = h
+point_within n (Wrote at) h = omega arith
+point_within n (Lost at read found) h = h
+point_within n (Faulted at before count) h = omega arith
+
+drop_more : {A : Type 0} (n : ℕ) (xs ys : List A) → n ≤ length xs → drop n (xs ++ ys) ≡ drop n xs ++ ys
+drop_more zero xs ys h = refl
+drop_more (suc n) [] ys h = absurd (omega arith)
+drop_more (suc n) (x ∷ xs) ys h = drop_more n xs ys (omega arith)
+
+drop_front : {A : Type 0} (xs ys : List A) → drop (length xs) (xs ++ ys) ≡ ys
+drop_front [] ys = refl
+drop_front (x ∷ xs) ys = drop_front xs ys
+
+-- Others' entries change nothing
+own_more : (k : ℕ) (H more : List Entry) (trace : List Item) → AreWithin (length H) trace → NoWork k more → OwnFrom k H trace → OwnFrom k (H ++ more) trace
+own_more k H more [] w none h = tt
+own_more k H more (i ∷ is) w none h = ap (places k (point i)) (drop_more (point i) H more (point_within (length H) i w.0)) ∙ (places_more k (point i) (drop (point i) H) more none ∙ h)
+
+pub placed_more : (k : ℕ) (H more : List Entry) (trace : List Item) → NoWork k more → IsPlaced k H trace → IsPlaced k (H ++ more) trace
+placed_more k H more trace none p = record {
+  ordered = p.ordered;
+  within = within_longer (length H) (length (H ++ more)) trace (let e = length-append H more in omega arith) p.within;
+  own = own_more k H more trace p.within none p.own;
+}
+
+-- An item and its entry
+own_snoc : (k : ℕ) (H more : List Entry) (trace : List Item) (i : Item) → AreWithin (length H) trace → Records k (length H) i more → OwnFrom k H trace → OwnFrom k (H ++ more) (trace ++ i ∷ [])
+own_snoc k H more [] i w g h = (λ j. places k (g.here j) (drop (g.here j) (H ++ more))) ∙ (ap (places k (length H)) (drop_front H more) ∙ g.own)
+own_snoc k H more (x ∷ xs) i w g h =
+    let p = point x in
+    let le = point_within (length H) x w.0 in
+    ap (places k p) (drop_more p H more le)
+    ∙ (places-append k p (drop p H) more
+    ∙ ((λ j. h j ++ places k (sum p le j) more)
+    ∙ (ap (λ (ps : List ℕ). written (x ∷ xs) ++ ps) g.own ∙ sym (written_snoc (x ∷ xs) i))))
+  where
+    sum : (p : ℕ) → p ≤ length H → p + length (drop p H) ≡ length H
+    sum p le = let e = length-drop p H in omega arith
+
+placed_item : (k : ℕ) (H more : List Entry) (trace : List Item) (i : Item) → Records k (length H) i more → IsPlaced k H trace → IsPlaced k (H ++ more) (trace ++ i ∷ [])
+placed_item k H more trace i g p = let size = length-append H more in record {
+  ordered = ordered_snoc 0 (length H) trace i p.ordered p.within (omega arith) (omega (arith, g.here));
+  within = within_snoc (length (H ++ more)) trace i (within_longer (length H) (length (H ++ more)) trace (omega arith) p.within) (subst (λ (n : ℕ). IsWithin n i) (sym size) g.stands);
+  own = own_snoc k H more trace i p.within g p.own;
+}
+
+pub placed_made : (k low high : ℕ) (H H' : List Entry) (trace trace' : List Item) (i : Item) → Made k low high H H' i → trace' ≡ trace ++ i ∷ [] → IsPlaced k H trace → IsPlaced k H' trace'
+placed_made k low high H H' trace trace' i made longer p = subst (λ (z : List Entry × List Item). IsPlaced k z.0 z.1) (λ j. (sym made.longer j, sym longer j)) (placed_item k H made.more trace i made.records p)
+
+pub sights_made : (k low high : ℕ) (H H' : List Entry) (trace trace' : List Item) (i : Item) → Made k low high H H' i → trace' ≡ trace ++ i ∷ [] → AreWithin (length H) trace → sights H' trace' ≡ sight H' i ∷ sights H trace
+sights_made k low high H H' trace trace' i made longer w =
+    ap (sights H') longer ∙ (sights_snoc H' trace i
+    ∙ ap (λ (z : List Sight). sight H' i ∷ reverse z) (ap (λ (h : List Entry). map (sight h) trace) made.longer ∙ sights_more H made.more trace w))
+
+-- a task is done with this reply
+pub done_so : (s : State) (P : Reply → Type 0) (r : Reply) → s ≡ Done r → P r → IfDone s P
+done_so s P r is h = subst (λ (z : State). IfDone z P) (sym is) h
+
+asked_so : (o : Option CommandTree) (c : CommandTree) (P : CommandTree → Type 0) → o ≡ Some c → IfSome o P → P c
+asked_so o c P e h = subst (λ (z : Option CommandTree). IfSome z P) e h
+
+begins_asked : (c : CommandTree) (w : State) → Begins c w → asked w ≡ Some c
+begins_asked c (Inserting d) h = ap Some (sym h.0)
+begins_asked c (Selecting w last) h = ap Some (sym h.0)
+begins_asked c (Counting w last n) h = ap Some (sym h.0)
+begins_asked c (Done reply) h = absurd h
+
+begins_ready : (c : CommandTree) (w : State) → Begins c w → IsReady w
+begins_ready c (Inserting d) h = h.1
+begins_ready c (Selecting w last) h = h.1
+begins_ready c (Counting w last n) h = (h.1, omega (arith, h.3))
+begins_ready c (Done reply) h = absurd h
+
+begins_way : (base : Base) (coll : Name) (k : ℕ) (c : CommandTree) (w : State) → Begins c w → IsUnderWay base coll k w []
+begins_way base coll k c (Inserting d) h = ((tt, refl), tt)
+begins_way base coll k c (Selecting w last) h = ((tt, tt), h.2)
+begins_way base coll k c (Counting w last n) h = ((tt, tt), (h.2, h.3))
+begins_way base coll k c (Done reply) h = absurd h
+
+-- entries of others
+pub stands_longer : (start : Option Base) (H more : List Entry) (task : Task) → NoWork task.session more → StandsOn start H task → StandsOn start (H ++ more) task
+stands_longer start H more task none h = record {
+  asks = h.asks;
+  ready = h.ready;
+  placed = placed_more task.session H more task.trace.items.items none h.placed;
+  under_way = λ base told. subst (IsUnderWay base task.coll task.session task.state) (ap reverse (sym (sights_more H more task.trace.items.items h.placed.within))) (h.under_way base told);
+}
+
+-- a task that was just made
+pub begun_stands : (start : Option Base) (H : List Entry) (task : Task) → task.trace.items.items ≡ [] → Begins (command_tree task.command.value) task.state → StandsOn start H task
+begun_stands start H task none begins = record {
+  asks = begins_asked (command_tree task.command.value) task.state begins;
+  ready = begins_ready (command_tree task.command.value) task.state begins;
+  placed = subst (IsPlaced task.session H) (sym none) (record { ordered = tt; within = tt; own = tt });
+  under_way = λ base told. subst (λ (z : List Item). IsUnderWay base task.coll task.session task.state (sights H z)) (sym none) (begins_way base task.coll task.session (command_tree task.command.value) task.state begins);
+}
+
+-- a step that goes on
+pub stands_on : (start : Option Base) (low high : ℕ) (H H' : List Entry) (task : Task) (w w' : State) (item : Item) (trace : Trace) → StandsOn start H task → w ≡ task.state → trace.items.items ≡ task.trace.items.items ++ item ∷ []
+    → Steps task.session low high w H H' (m.Goes item w') → Promises start task.coll task.session H H' w (m.Goes item w') → StandsOn start H' (record task { trace = trace; state = w' })
+stands_on start low high H H' task w w' item trace h w_is longer steps leads = record {
+  asks = steps.1 ∙ (ap asked w_is ∙ h.asks);
+  ready = steps.2;
+  placed = placed_made task.session low high H H' task.trace.items.items trace.items.items item steps.0 longer h.placed;
+  under_way = λ base told. subst (IsUnderWay base task.coll task.session w') (sym (sights_made task.session low high H H' task.trace.items.items trace.items.items item steps.0 longer h.placed.within))
+      (leads base told task.trace.items.items h.placed (subst (λ (z : State). IsUnderWay base task.coll task.session z (sights H task.trace.items.items)) (sym w_is) (h.under_way base told)));
+}
+
+-- a step that answers the request
+pub served_so : (start : Option Base) (low high : ℕ) (H H' : List Entry) (task : Task) (w : State) (item : Item) (reply : Reply) (trace : List Item) → StandsOn start H task → w ≡ task.state → trace ≡ task.trace.items.items ++ item ∷ []
+    → Steps task.session low high w H H' (m.Ends item reply) → Promises start task.coll task.session H H' w (m.Ends item reply)
+    → ForSome start (λ base. IsServed base H' task.coll task.session (command_tree task.command.value) trace reply)
+served_so start low high H H' task w item reply trace h w_is longer steps leads = λ base told.
+    subst (λ (z : List Sight). Serves base task.coll task.session (command_tree task.command.value) z reply) (sym (sights_made task.session low high H H' task.trace.items.items trace item steps longer h.placed.within))
+    (asked_so (asked w) (command_tree task.command.value) (λ c. Serves base task.coll task.session c (sight H' item ∷ sights H task.trace.items.items) reply) (ap asked w_is ∙ h.asks)
+    (leads base told task.trace.items.items h.placed (subst (λ (z : State). IsUnderWay base task.coll task.session z (sights H task.trace.items.items)) (sym w_is) (h.under_way base told))))
+
+-- want of memory
+pub cut_so : (start : Option Base) (H H' : List Entry) (task : Task) (trace : List Item) → StandsOn start H task → H' ≡ H → trace ≡ task.trace.items.items
+    → ForSome start (λ base. IsServed base H' task.coll task.session (command_tree task.command.value) trace (NoMemory 0))
+cut_so start H H' task trace h same same_trace = λ base told.
+    subst (λ (z : List Entry × List Item). IsServed base z.0 task.coll task.session (command_tree task.command.value) z.1 (NoMemory 0)) (λ j. (sym same j, sym same_trace j))
+    (cut_off base task.coll task.session (command_tree task.command.value) (sights H task.trace.items.items)
+    (asked_so (asked task.state) (command_tree task.command.value) (λ c. IsBegun base task.coll task.session c (sights H task.trace.items.items)) h.asks (h.under_way base told).0))
+
+-- the trace of a task that stands, with the reply for want of memory, was served
+pub stands_served : (start : Option Base) (H : List Entry) (task : Task) → StandsOn start H task → ForSome start (λ base. IsServed base H task.coll task.session (command_tree task.command.value) task.trace.items.items (NoMemory 0))
+stands_served start H task h = cut_so start H H task task.trace.items.items h refl refl

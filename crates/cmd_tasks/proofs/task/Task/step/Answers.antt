@@ -1,0 +1,23 @@
+use Rattle.std.proofs.Common.{rules, refl, sym, subst}
+use Rattle.reply_env.specs.declared.reply.Reply.TheVariants.{NoMemory}
+use Rattle.cmd_tasks.specs.Stands.{StandsOn}
+use Rattle.cmd_tasks.proofs.Standing.{stands_on, served_so, cut_so, done_so}
+use Rattle.cmd_tasks.proofs.task.Task.step.Goals as goal
+
+pub returns-then-is_err-clause-done : goal.returns-then-is_err-clause-done
+returns-then-is_err-clause-done g c = λ d. done_so c.replace-state.new.dest _ (NoMemory 0) c.replace-state.ensures.after
+    (cut_so _ _ _ c.args.self.now c.reserve.new.self.items c.requires.stands refl c.reserve.ensures.items)
+
+pub returns-in-Goes-clause-more : goal.returns-in-Goes-clause-more
+returns-in-Goes-clause-more g c = λ m. (
+  subst (λ b. StandsOn b c.advance.new.store.journal (record c.args.self.now { trace = record c.args.self.now.trace { items = c.push_reserved.new.self }; state = c.in-Goes.state })) (sym c.in-Goes.ensures.base.1)
+      (stands_on _ _ _ _ _ c.args.self.now c.replace-state.result c.in-Goes.state c.in-Goes.item (record c.args.self.now.trace { items = c.push_reserved.new.self }) c.requires.stands (search rules) (search rules) c.in-Goes.ensures.steps c.in-Goes.ensures.leads),
+  search rules,
+)
+
+pub returns-in-Ends-clause-done : goal.returns-in-Ends-clause-done
+returns-in-Ends-clause-done g c = λ d. served_so _ _ _ _ _ c.args.self.now c.replace-state.result c.in-Ends.item c.in-Ends.reply c.push_reserved-in-Ends.new.self.items c.requires.stands (search rules) (search rules) c.in-Ends.ensures.steps c.in-Ends.ensures.leads
+
+pub returns-in-NoMemory-clause-done : goal.returns-in-NoMemory-clause-done
+returns-in-NoMemory-clause-done g c = λ d. done_so c.replace-state.new.dest _ (NoMemory 0) c.replace-state.ensures.after
+    (cut_so _ _ _ c.args.self.now c.reserve.new.self.items c.requires.stands c.in-NoMemory.ensures.steps c.reserve.ensures.items)

@@ -1,0 +1,9 @@
+pub mod Trace
+pub mod Served
+pub mod Session
+pub mod Placed
+pub mod Pages
+pub mod Rank
+pub mod Wanted
+pub mod Moves
+pub mod Stands

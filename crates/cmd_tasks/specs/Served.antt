@@ -1,0 +1,137 @@
+-- Which trace and which reply of a request belong together. Sights stand with the newest first.
+use Rattle.std.specs.Prelude.{◌≡◌, ℕ, ◌+◌, ◌-◌, ◌^◌, ◌⊎◌, List, [], ◌∷◌, length, map, reverse, min, nat_lt, Option, Some, None, ⊤}
+use Rattle.std.specs.Option.{option_map}
+use Rattle.json_tree.specs.Tree.{Tree}
+use Rattle.json_tree.specs.View.{tree}
+use Rattle.shred_cols.specs.Row.{id_of}
+use Rattle.shred_cols.specs.Rows.{first}
+use Rattle.col_keeper.specs.Tables.{Name}
+use Rattle.reply_env.specs.Messages as errors
+use Rattle.reply_env.specs.Reply.{IsRefusal}
+use Rattle.reply_env.specs.declared.reply.ErrorItem.{ErrorItem}
+use Rattle.reply_env.specs.declared.reply.Reply.{Reply}
+use Rattle.reply_env.specs.declared.reply.Reply.TheVariants.{Inserted, Found as FoundOne, Counted, Refused, NoMemory}
+use Rattle.store_core.specs.State.{State, IsGone, number_at}
+use Rattle.store_core.specs.declared.entry.Entry.{Entry}
+use Rattle.store_core.specs.declared.entry.Entry.TheVariants.{Changed, Failed}
+use Rattle.store_core.specs.declared.entry.Change.{Change}
+use Rattle.store_core.specs.declared.entry.Change.TheVariants.{Insert}
+use Rattle.cmd_grammar.specs.Commands.{CommandTree, insert_one, find_one, count_documents}
+use Rattle.cmd_tasks.specs.Trace.{Sight, sight, now, shown, GoesOn, IsLook, next_from, IsListed}
+use Rattle.cmd_tasks.specs.declared.trace.Item.{Item}
+use Rattle.cmd_tasks.specs.declared.trace.Item.TheVariants.{Looked, Wrote, Lost, Faulted}
+
+-- how many writes were accepted
+abbrev pub one_if_wrote : Item → ℕ
+one_if_wrote (Looked at after up_to shown) = 0
+one_if_wrote (Wrote at) = 1
+one_if_wrote (Lost at read found) = 0
+one_if_wrote (Faulted at before count) = 0
+
+abbrev pub accepted : List Sight → ℕ
+accepted [] = 0
+accepted (s ∷ earlier) = one_if_wrote s.item + accepted earlier
+
+-- the answer to so many that were shown
+abbrev pub counted : ℕ → Reply
+counted n = Counted (min n 1000) (nat_lt 1000 n)
+
+-- the reply tells that this document was inserted
+abbrev pub TellsInserted : Tree → Reply → Type 0
+TellsInserted id (Inserted ids) = ids.items ≡ id ∷ []
+TellsInserted id (FoundOne view) = ⊥
+TellsInserted id (Counted count more) = ⊥
+TellsInserted id (Refused errors kept) = ⊥
+TellsInserted id (NoMemory n) = ⊥
+
+-- the reply shows this document, or none
+abbrev pub TellsFound : Option Tree → Reply → Type 0
+TellsFound d (Inserted ids) = ⊥
+TellsFound d (FoundOne view) = option_map tree view ≡ d
+TellsFound d (Counted count more) = ⊥
+TellsFound d (Refused errors kept) = ⊥
+TellsFound d (NoMemory n) = ⊥
+
+module _ (base : State) (coll : Name) (k : ℕ) where
+  -- the item wrote: an entry by this session, of this change of the document that stood there
+  abbrev pub WroteChange : Tree → Change → Option ℕ → Sight → Type 0
+  WroteChange id change before s = (s.item ≡ Wrote (length s.past)) × ((tx : ℕ) × (s.entry ≡ Some (Changed k coll id change before tx)))
+
+  -- An insertion: the id isn't there and the document is written by this session, or its id is there
+  pub record IsInserted (d : Tree) (s : Sight) : Type 0 where
+    pub absent : number_at (now base coll s) coll (id_of d) ≡ None
+    pub wrote : WroteChange (id_of d) (Insert d) None s
+
+  pub record IsTaken (d : Tree) (tx : ℕ) (s : Sight) : Type 0 where
+    pub item : s.item ≡ Lost (length s.past) 0 (Some tx)
+    pub there : number_at (now base coll s) coll (id_of d) ≡ Some tx
+
+  -- The request is not answered yet by the sights so far
+  abbrev pub IsOpen : CommandTree → List Sight → Type 0
+  IsOpen (insert_one d) sights = sights ≡ []
+  IsOpen (find_one f) sights = GoesOn base coll f 1 sights
+  IsOpen (count_documents f) sights = GoesOn base coll f 1001 sights
+
+  -- what comes next
+  abbrev pub Next : CommandTree → List Sight → Sight → Type 0
+  Next (insert_one d) sights s = IsInserted d s ⊎ ((tx : ℕ) × IsTaken d tx s)
+  Next (find_one f) sights s = IsLook base coll f (next_from None sights) s
+  Next (count_documents f) sights s = IsLook base coll f (next_from None sights) s
+
+  -- the sights so far are those of the command
+  abbrev pub IsPartOf : CommandTree → List Sight → Type 0
+  IsPartOf c [] = ⊤
+  IsPartOf c (s ∷ earlier) = IsPartOf c earlier × IsOpen c earlier × Next c earlier s
+
+  -- the reply to all of them
+  abbrev pub Answers : CommandTree → List Sight → Reply → Type 0
+  Answers (insert_one d) [] reply = ⊥
+  Answers (insert_one d) (s ∷ earlier) reply =
+      (IsInserted d s × TellsInserted (id_of d) reply)
+      ⊎ ((tx : ℕ) × IsTaken d tx s × IsRefusal (errors.already_exists (id_of d) tx) reply)
+  Answers (find_one f) sights reply =
+      IsListed base coll f 1 sights × TellsFound (option_map (λ x. x.doc) (first (shown base coll f sights))) reply
+  Answers (count_documents f) sights reply =
+      IsListed base coll f 1001 sights × (reply ≡ counted (length (shown base coll f sights)))
+
+  -- a write of a document comes next
+  abbrev pub IsToWrite : CommandTree → List Sight → Type 0
+  IsToWrite (insert_one d) sights = ⊤
+  IsToWrite (find_one f) sights = ⊥
+  IsToWrite (count_documents f) sights = ⊥
+
+  -- the interval of a look at a point where there is nothing to look at or to write
+  abbrev pub Marks : CommandTree → List Sight → Option Tree → Option Tree → Type 0
+  Marks (insert_one d) sights after up = (after ≡ Some (id_of d)) × (up ≡ Some (id_of d))
+  Marks (find_one f) sights after up = (after ≡ next_from None sights) × (up ≡ None)
+  Marks (count_documents f) sights after up = (after ≡ next_from None sights) × (up ≡ None)
+
+  -- the request stops at this sight, with this error: no collection, no version number left for a write, or a failed call
+  abbrev pub Stops : (Option Tree → Option Tree → Type 0) → Type 0 → Item → Sight → ErrorItem → Type 0
+  Stops marks to_write (Looked at after up_to shown) s error =
+      marks after up_to × (shown.items ≡ [])
+      × ((IsGone coll (now base coll s) × (error ≡ errors.no_collection coll))
+      ⊎ (to_write × ((now base coll s).next ≡ 2 ^ 63 - 1) × (error ≡ errors.versions_spent)))
+  Stops marks to_write (Wrote at) s error = ⊥
+  Stops marks to_write (Lost at read found) s error = ⊥
+  Stops marks to_write (Faulted at before count) s error =
+      (s.entry ≡ Some (Failed k before count)) × (error ≡ errors.store_fault before count)
+
+  abbrev pub IsStopped : CommandTree → List Sight → ErrorItem → Type 0
+  IsStopped c [] error = ⊥
+  IsStopped c (s ∷ earlier) error = IsPartOf c earlier × IsOpen c earlier × Stops (Marks c earlier) (IsToWrite c earlier) s.item s error
+
+  -- the trace, the newest sight first, and the reply belong to the command: it is answered, or stopped by an error, or cut off for want of memory
+  abbrev pub Serves : CommandTree → List Sight → Reply → Type 0
+  Serves c sights reply =
+      (IsPartOf c sights × Answers c sights reply)
+      ⊎ ((error : ErrorItem) × IsStopped c sights error × IsRefusal error reply)
+      ⊎ ((IsPartOf c sights ⊎ ((error : ErrorItem) × IsStopped c sights error)) × (reply ≡ NoMemory (accepted sights)))
+
+-- what the trace saw of the history, the newest first
+abbrev pub sights : List Entry → List Item → List Sight
+sights H trace = reverse (map (sight H) trace)
+
+-- the request was served: what it saw of the history H and the reply belong together
+abbrev pub IsServed : State → List Entry → Name → ℕ → CommandTree → List Item → Reply → Type 0
+IsServed base H coll k c trace reply = Serves base coll k c (sights H trace) reply

@@ -1,0 +1,69 @@
+// Laws of tasks and sessions: each function does nothing, and its clauses are the laws.
+ghost use Rattle.std.specs.Prelude.{◌≡◌, ◌≢◌, ◌≤◌, ◌+◌, ℕ, List, Option, length, slice_get, slice_set, [], ◌∷◌, ◌++◌, Some};
+ghost use Rattle.std.specs.Option.{ForSome};
+ghost use Rattle.col_keeper.specs.Tables.{Name};
+ghost use Rattle.reply_env.specs.declared.reply.Reply.{Reply as Answer};
+ghost use Rattle.reply_env.specs.declared.reply.Reply.TheVariants.{NoMemory};
+ghost use Rattle.store_core.specs.State.{State as Base};
+ghost use Rattle.store_core.specs.Journal.{IsJournal};
+ghost use Rattle.store_core.specs.Counts.{AllBy, opened_in};
+ghost use Rattle.store_core.specs.declared.entry.Entry.{Entry as Journaled};
+ghost use Rattle.store_core.specs.declared.entry.Entry.TheVariants.{Opened};
+ghost use Rattle.cmd_grammar.specs.Commands.{CommandTree, command_tree};
+ghost use Rattle.cmd_tasks.specs.Served.{IsServed};
+ghost use Rattle.cmd_tasks.specs.Session.{Exchange, IsSession, IsAnswered, AreSessions, AreWithin, NoWork, Records};
+ghost use Rattle.cmd_tasks.specs.Stands.{StandsOn};
+ghost use Rattle.cmd_tasks.specs.declared.task.Task.{Task as Tasked};
+ghost use Rattle.cmd_tasks.specs.declared.trace.Item.{Item as Seen};
+
+/// The entries of other sessions leave a task where it stands.
+pub fn others_may_append()
+    ensures { (start : Option Base) (history more : List Journaled) (task : Tasked) → NoWork task.session more → StandsOn start history task → StandsOn start (history ++ more) task }
+{}
+
+/// The trace of a task that stands, with the reply for want of memory, was served.
+pub fn a_task_may_be_cut_off()
+    ensures { (start : Option Base) (history : List Journaled) (task : Tasked) → StandsOn start history task
+        → ForSome start (λ base. IsServed base history task.coll task.session (command_tree task.command.value) task.trace.items.items (NoMemory 0)) }
+{}
+
+/// What was served stays served in every longer history.
+pub fn what_was_served_stays()
+    ensures { (base : Base) (history more : List Journaled) (coll : Name) (k : ℕ) (c : CommandTree) (trace : List Seen) (reply : Answer)
+        → AreWithin (length history) trace → IsServed base history coll k c trace reply → IsServed base (history ++ more) coll k c trace reply }
+{}
+
+/// A session stays one in every longer history to which others alone have added.
+pub fn others_may_write()
+    ensures { (base : Base) (history more : List Journaled) (k : ℕ) (exchanges : List Exchange) → IsJournal base (history ++ more) → NoWork k more → IsSession base history k exchanges → IsSession base (history ++ more) k exchanges }
+{}
+
+/// A request begins, as the session's last exchange.
+pub fn a_request_begins()
+    ensures { (base : Base) (history : List Journaled) (k : ℕ) (exchanges : List Exchange) (x : Exchange) → x.trace ≡ [] → IsAnswered base history k x → IsSession base history k exchanges → IsSession base history k (exchanges ++ x ∷ []) }
+{}
+
+/// One step of a session's last request: one item, and one entry where the item wrote.
+pub fn a_step_is_made()
+    ensures { (base : Base) (history more : List Journaled) (k : ℕ) (exchanges : List Exchange) (x y : Exchange) (i : Seen) →
+        IsSession base history k (exchanges ++ x ∷ []) → IsJournal base (history ++ more) → y.trace ≡ x.trace ++ i ∷ [] → Records k (length history) i more → IsAnswered base (history ++ more) k y
+        → IsSession base (history ++ more) k (exchanges ++ y ∷ []) }
+{}
+
+/// The session's last request gets its reply.
+pub fn a_request_ends()
+    ensures { (base : Base) (history : List Journaled) (k : ℕ) (exchanges : List Exchange) (x y : Exchange) → IsSession base history k (exchanges ++ x ∷ []) → y.trace ≡ x.trace → IsAnswered base history k y
+        → IsSession base history k (exchanges ++ y ∷ []) }
+{}
+
+/// A step of one session, with all the others beside it.
+pub fn one_session_steps()
+    ensures { (base : Base) (history more : List Journaled) (k i : ℕ) (all : List (List Exchange)) (exchanges : List Exchange) →
+        IsJournal base (history ++ more) → AllBy (k + i) more → IsSession base (history ++ more) (k + i) exchanges → AreSessions base history k all
+        → AreSessions base (history ++ more) k (slice_set all i exchanges) }
+{}
+
+/// A session that was just opened has made no exchange.
+pub fn a_session_opens()
+    ensures { (base : Base) (history : List Journaled) (k : ℕ) → base.sessions ≡ 0 → k ≡ opened_in history → IsJournal base (history ++ Opened k ∷ []) → IsSession base (history ++ Opened k ∷ []) k [] }
+{}

@@ -1,0 +1,96 @@
+// Where a task stands between two steps.
+ghost use Rattle.std.specs.Prelude.{◌≡◌};
+ghost use Rattle.filter_tree.specs.View.{filter_tree};
+ghost use Rattle.filter_tree.specs.Matches.{matches};
+ghost use Rattle.filter_plan.specs.View.{IsPlanOf};
+ghost use Rattle.cmd_grammar.specs.Commands.{IsAskableFilter};
+ghost use Rattle.cmd_tasks.specs.Wanted.{IsWanted};
+
+use crate::trace::Item;
+use filter_plan::{Plan, Verdict, plan};
+use filter_tree::Filter;
+use json_tree::{DocId, Value};
+use reply_env::Reply;
+use shred_cols::Row;
+use std::alloc::Global;
+
+/// A filter, with its plan if memory was there for it.
+#[derive(Drop)]
+pub(crate) struct Wanted {
+    pub(crate) filter: Filter,
+    pub(crate) plan: Option<Plan>,
+}
+
+impl Wanted {
+    pub(crate) fn new(alloc: Global, asked: Filter) -> Wanted
+        requires { IsAskableFilter (filter_tree asked) }
+        ensures filter { result.filter ≡ asked }
+        ensures wanted { IsWanted result }
+    {
+        match plan(alloc, &asked) {
+            Ok(plan) => Wanted {
+                filter: asked,
+                plan: Some(plan),
+            },
+            Err(_) => Wanted {
+                filter: asked,
+                plan: None,
+            },
+        }
+    }
+}
+
+/// Whether a row's document matches. Its columns tell it, or else the document itself is tested.
+pub(crate) fn is_match(wanted: &Filter, plan: &Plan, row: &Row) -> bool
+    ensures { IsAskableFilter (filter_tree wanted.now) → IsPlanOf (filter_tree wanted.now) plan.now → result ≡ matches (filter_tree wanted.now) row.now.doc }
+{
+    let doc = row.doc();
+    match plan.judge(row.columns()) {
+        Verdict::Yes => true,
+        Verdict::No => false,
+        Verdict::Look => wanted.test(doc),
+    }
+}
+
+/// What is to be done next.
+#[derive(Drop)]
+pub(crate) enum State {
+    Inserting {
+        document: Value,
+    },
+    Selecting {
+        wanted: Wanted,
+        last: Option<DocId>,
+    },
+    Counting {
+        wanted: Wanted,
+        last: Option<DocId>,
+        shown: u64,
+    },
+    Done {
+        reply: Reply,
+    },
+}
+
+/// What one step of the work gives: an item and the next state, an item and the reply, or nothing for want of memory.
+#[derive(Drop)]
+pub(crate) enum Moved {
+    Goes { item: Item, state: State },
+    Ends { item: Item, reply: Reply },
+    NoMemory,
+}
+
+/// One page of a listing: an item, the matching rows and where the next page begins, or an item and the reply.
+#[derive(Drop)]
+pub(crate) enum Glance {
+    Shown {
+        item: Item,
+        rows: Vec<Row>,
+        last: Option<DocId>,
+    },
+    Ended {
+        item: Item,
+        reply: Reply,
+    },
+    NoMemory,
+}

@@ -1,0 +1,44 @@
+-- What a run makes of the keeper that it is given.
+use Rattle.std.specs.Prelude.{◌≡◌, ℕ, ℤ, ◌≤◌, ◌<◌, List, [], Option}
+use Rattle.std.specs.Option.{option_map, ForSome}
+use Rattle.col_keeper.specs.Tables.{Tables}
+use Rattle.store_core.specs.State.{State, start_of, tables_of}
+use Rattle.store_core.specs.Journal.{replay}
+use Rattle.store_core.specs.Opening.{opened_with, begun_with, would_live}
+use Rattle.store_core.specs.declared.entry.Entry.{Entry}
+use Rattle.cmd_tasks.specs.declared.trace.Trace.{Trace}
+use Rattle.api_serve.specs.Session.{Serving}
+use Rattle.api_serve.specs.Run.{ServesLines}
+use Rattle.dapi.specs.Words.{RunsOn}
+
+module _ {K : Type 0} (tables : K → Option Tables) (failed : K → ℕ) (words : List (List ℕ)) (given kept : K) where
+  -- The store was opened over the keeper: its history begins empty at the keeper's tables, with an empty collection of each
+  -- named one that was missing, in order. It ended so, and the keeper that is handed back has the tables that its history leaves.
+  pub record Runs (times : Option (List ℤ)) (Ended : (List (List ℕ) → List ℕ → Type 0) → Type 0) : Type 0 where
+    pub keyspace : List ℕ
+    pub collections : List (List ℕ)
+    pub asked : RunsOn words keyspace collections
+    pub count : ℕ
+    pub counts : failed given ≤ count
+    pub start : Option State
+    pub start_is : start ≡ option_map (λ t. start_of count (opened_with collections t)) (tables given)
+    pub history : List Entry
+    pub traces : List Trace
+    pub later : Option (List ℤ)
+    pub ended : Ended (ServesLines keyspace start (record { journal = []; failed = count; traces = []; times = times }) (record { journal = history; failed = failed kept; traces = traces; times = later }))
+    pub tables_are : tables kept ≡ option_map (λ s. tables_of (replay s history)) start
+
+  -- The store wasn't opened: a call of the keeper failed, of which the missing collections that were made before are the first
+  pub record FailsOpening : Type 0 where
+    pub keyspace : List ℕ
+    pub collections : List (List ℕ)
+    pub asked : RunsOn words keyspace collections
+    pub made : ℕ
+    pub tables_are : tables kept ≡ option_map (begun_with made collections) (tables given)
+
+  -- over 100 collections would live, of which none was made
+  pub record IsOverfull : Type 0 where
+    pub keyspace : List ℕ
+    pub collections : List (List ℕ)
+    pub asked : RunsOn words keyspace collections
+    pub over : ForSome (tables given) (λ t. (100 < would_live collections t) × (tables kept ≡ tables given))
