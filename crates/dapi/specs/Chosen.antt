@@ -1,5 +1,6 @@
 -- What the code has of the options. Only the crate's private clauses cite it.
-use Rattle.std.specs.Prelude.{◌≡◌, ℕ, List, [], ◌∷◌, Option, Some, None, map}
+use Rattle.std.specs.Prelude.{◌≡◌, ℕ, ◌<◌, List, [], ◌∷◌, ◌++◌, length, Option, Some, None, map, IsTrue}
+use Rattle.doc_paths.specs.Name.{is_collection_name}
 use Rattle.dapi.specs.Words.{Choice, of_keyspace, of_collection, word_of, AreChoices, keyspaces_in, collections_in}
 use Rattle.dapi.specs.declared.words.Chosen.{Chosen}
 use Rattle.dapi.specs.declared.words.Chosen.TheVariants.{Keyspace, Collection}
@@ -20,3 +21,21 @@ pub record HasChosen (words : List (List ℕ)) (kept : Choices) : Type 0 where
   pub allowed : AreChoices choices
   pub keyspaces : keyspaces_in choices ≡ kept_keyspace kept.keyspace
   pub collections : collections_in choices ≡ kept.collections.items
+
+-- the options so far allow one more
+abbrev pub Allows : Choice → Choices → Type 0
+Allows (of_keyspace name) kept = IsTrue (is_collection_name name) × (kept.keyspace ≡ None)
+Allows (of_collection name) kept = IsTrue (is_collection_name name) × (length kept.collections.items < 100)
+
+-- and are kept with it
+abbrev pub Adds : Choice → Choices → Choices → Type 0
+Adds (of_keyspace name) old new = (new.keyspace ≡ Some name) × (new.collections.items ≡ old.collections.items)
+Adds (of_collection name) old new = (new.keyspace ≡ old.keyspace) × (new.collections.items ≡ old.collections.items ++ name ∷ [])
+
+-- the word is an option that they allow, and they are kept with it
+abbrev pub Chooses : List ℕ → Choices → Choices → Type 0
+Chooses word old new = (choice : Choice) × (word ≡ word_of choice) × Allows choice old × Adds choice old new
+
+-- it is none that they allow
+abbrev pub IsNoChoice : List ℕ → Choices → Type 0
+IsNoChoice word kept = (choice : Choice) → word ≡ word_of choice → Allows choice kept → ⊥

@@ -1,4 +1,5 @@
 pub mod Words
 pub mod Chosen
 pub mod Note
+pub mod Ended
 pub mod Top

@@ -4,6 +4,8 @@ use Rattle.std.specs.List.{list_any}
 use Rattle.outside_io.specs.Told.{Writing, Takes, IsHindered}
 use Rattle.api_serve.specs.declared.run.RunHow.{RunHow}
 use Rattle.api_serve.specs.declared.run.RunHow.TheVariants as ends
+use Rattle.store_core.specs.declared.open.OpenFault.{OpenFault}
+use Rattle.store_core.specs.declared.open.OpenFault.TheVariants as opens
 use Rattle.dapi.specs.declared.words.WordFault.{WordFault}
 use Rattle.dapi.specs.declared.words.WordFault.TheVariants as faults
 
@@ -37,6 +39,18 @@ word_status faults.NoMemory = 9
 abbrev pub word_note : WordFault → List ℕ
 word_note faults.Usage = usage_note
 word_note faults.NoMemory = codes "no memory\n"
+
+-- where the store couldn't be opened
+module _ {K : Type 0} where
+  abbrev pub open_status : OpenFault K → ℕ
+  open_status (opens.KeeperFault keeper before after) = 4
+  open_status (opens.TooMany keeper) = 4
+  open_status (opens.NoMemory keeper) = 9
+
+  abbrev pub open_note : OpenFault K → List ℕ
+  open_note (opens.KeeperFault keeper before after) = codes "keeper fault\n"
+  open_note (opens.TooMany keeper) = codes "too many collections\n"
+  open_note (opens.NoMemory keeper) = codes "no memory\n"
 
 -- the note of each status but that of a wrong line, whose note has the line's number, and of an unopened store, which has two
 abbrev pub note_at : ℕ → List ℕ

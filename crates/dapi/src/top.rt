@@ -8,11 +8,12 @@ ghost use Rattle.store_core.specs.Store.{IsKept};
 ghost use Rattle.api_serve.specs.Run.{ServesInput, ServesWholeLines, ServesBefore, ServesCut, ServesFirst, HasRead};
 ghost use Rattle.dapi.specs.Words.{RunsOn, IsUsage};
 ghost use Rattle.dapi.specs.Top.{Runs, FailsOpening, IsOverfull};
-ghost use Rattle.dapi.specs.Note.{IsNoted, line_note, note_at, is_status, word_status, word_note};
+ghost use Rattle.dapi.specs.Note.{IsNoted, line_note, note_at, is_status, status_of, note_of, word_status, word_note, open_status, open_note};
+ghost use Rattle.dapi.specs.Ended.{keeper_in, EndsStore};
 
 use crate::note::{note_of, status_of, word_note, word_status, write_note};
 use crate::words::{WordFault, read};
-use api_serve::{RunEnd, run_lines};
+use api_serve::{RunEnd, RunHow, run_lines};
 use col_keeper::Keeper;
 use outside_io::{Clock, Sink, Source};
 use std::alloc::Global;
@@ -28,7 +29,11 @@ pub fn refuse_words<E: Sink>(notes: &mut E, fault: WordFault) -> u8
 }
 
 // Ends a call whose store couldn't be opened: writes the note, and hands the keeper back.
-fn refuse_store<E: Sink, K: Keeper>(notes: &mut E, fault: OpenFault<K>) -> (u8, K) {
+fn refuse_store<E: Sink, K: Keeper>(notes: &mut E, fault: OpenFault<K>) -> (u8, K)
+    ensures status { result.0 ≡ open_status fault }
+    ensures kept { result.1 ≡ keeper_in fault }
+    ensures noted { IsNoted (E.writing notes.old) (E.writing notes.new) (open_note fault) }
+{
     match fault {
         OpenFault::KeeperFault {
             keeper,
@@ -59,7 +64,13 @@ fn run_store<S: Source, W: Sink, E: Sink, K: Keeper, C: Clock>(
     store: Store<K>,
     clock: &mut C,
     seed: &[u8; 28],
-) -> (u8, K) {
+) -> (u8, K)
+    ensures ran { (how : RunHow) × (result.0 ≡ status_of how) × IsNoted (E.writing notes.old) (E.writing notes.new) (note_of how)
+        × (EndsStore K.tables K.failed keyspace.now store (C.times clock.old) result.1 (S.reading source.old) (S.reading source.new) (W.writing sink.old) (W.writing sink.new) how
+        ⊎ ((how ≡ RunHow.NoMemory) × (source.new ≡ source.old) × (sink.new ≡ sink.old))) }
+    ensures bounded { (count : ℕ) × (count ≤ 2 ^ 40) × HasRead (S.reading source.old) (S.reading source.new) count }
+    ensures faults { K.failed store.keeper ≤ K.failed result.1 }
+{
     let mut store = store;
     let RunEnd { how, traces: _ } = run_lines(alloc, keyspace, source, sink, &mut store, clock, seed);
     write_note(notes, note_of(how).as_str());

@@ -1,10 +1,11 @@
 //! The words of a command line.
-ghost use Rattle.std.specs.Prelude.{◌≡◌, ◌++◌, ◌≤◌, ℕ, List, codes, map, string_bytes, MatchOption, IfOk, IfErr, IsTrue};
+ghost use Rattle.std.specs.Prelude.{◌≡◌, ◌++◌, ◌∷◌, ◌≤◌, ℕ, List, [], codes, map, string_bytes, MatchOption, IfOk, IfErr, OnOk, Err, IsTrue};
 ghost use Rattle.doc_paths.specs.Name.{is_collection_name};
-ghost use Rattle.dapi.specs.Words.{Choice, word_of, RunsOn, IsUsage, IsWordFault};
-ghost use Rattle.dapi.specs.Chosen.{choice_of, HasChosen};
+ghost use Rattle.dapi.specs.Words.{Choice, of_keyspace, of_collection, word_of, keyspace_of, RunsOn, IsUsage, IsWordFault};
+ghost use Rattle.dapi.specs.Chosen.{choice_of, kept_keyspace, HasChosen, Allows, Adds, Chooses, IsNoChoice};
 
 use doc_paths::{CollName, NameFault};
+use outside_io::NoMemory;
 use std::alloc::Global;
 
 /// Why the words of a command line can't be used.
@@ -63,28 +64,49 @@ fn name_of(alloc: Global, name: &str) -> Result<CollName, WordFault>
     }
 }
 
+// Takes the name of the keyspace.
+fn choose_keyspace(alloc: Global, name: &str, choices: &mut Choices) -> Result<(), WordFault>
+    ensures ok { OnOk result (Allows (of_keyspace name.now) choices.old × Adds (of_keyspace name.now) choices.old choices.new) }
+    ensures usage { result ≡ Err WordFault.Usage → Allows (of_keyspace name.now) choices.old → ⊥ }
+{
+    let name = match name_of(alloc, name) {
+        Ok(name) => name,
+        Err(fault) => return Err(fault),
+    };
+    if choices.keyspace.is_some() {
+        return Err(WordFault::Usage);
+    }
+    choices.keyspace = Some(name);
+    Ok(())
+}
+
+// Takes the name of one more collection.
+fn choose_collection(alloc: Global, name: &str, choices: &mut Choices) -> Result<(), WordFault>
+    ensures ok { OnOk result (Allows (of_collection name.now) choices.old × Adds (of_collection name.now) choices.old choices.new) }
+    ensures usage { result ≡ Err WordFault.Usage → Allows (of_collection name.now) choices.old → ⊥ }
+{
+    let name = match name_of(alloc, name) {
+        Ok(name) => name,
+        Err(fault) => return Err(fault),
+    };
+    if choices.collections.len() >= MOST_COLLECTIONS {
+        return Err(WordFault::Usage);
+    }
+    match choices.collections.push(name) {
+        Ok(()) => Ok(()),
+        Err(_) => Err(WordFault::NoMemory),
+    }
+}
+
 // Takes one more option.
-fn choose(alloc: Global, word: &str, choices: &mut Choices) -> Result<(), WordFault> {
+fn choose(alloc: Global, word: &str, choices: &mut Choices) -> Result<(), WordFault>
+    ensures ok { OnOk result (Chooses word.now choices.old choices.new) }
+    ensures usage { result ≡ Err WordFault.Usage → IsNoChoice word.now choices.old }
+{
     match option_in(word) {
         None => Err(WordFault::Usage),
-        Some(Chosen::Keyspace(name)) => {
-            let name = name_of(alloc, name)?;
-            if choices.keyspace.is_some() {
-                return Err(WordFault::Usage);
-            }
-            choices.keyspace = Some(name);
-            Ok(())
-        }
-        Some(Chosen::Collection(name)) => {
-            let name = name_of(alloc, name)?;
-            if choices.collections.len() >= MOST_COLLECTIONS {
-                return Err(WordFault::Usage);
-            }
-            match choices.collections.push(name) {
-                Ok(()) => Ok(()),
-                Err(_) => Err(WordFault::NoMemory),
-            }
-        }
+        Some(Chosen::Keyspace(name)) => choose_keyspace(alloc, name, choices),
+        Some(Chosen::Collection(name)) => choose_collection(alloc, name, choices),
     }
 }
 
@@ -97,13 +119,43 @@ fn choices_of(alloc: Global, options: &[String]) -> Result<Choices, WordFault>
         keyspace: None,
         collections: Vec::new(alloc),
     };
-    for option in options {
+    'options: for option in options {
         match choose(alloc, option.as_str(), &mut choices) {
             Ok(()) => {}
             Err(fault) => return Err(fault),
         }
     }
     Ok(choices)
+}
+
+// The keyspace that was named, or else `ks`.
+fn keyspace_of(alloc: Global, named: Option<CollName>) -> Result<CollName, NoMemory>
+    ensures { IfOk result (λ keyspace. keyspace ≡ keyspace_of (kept_keyspace named)) }
+{
+    match named {
+        Some(keyspace) => Ok(keyspace),
+        None => match CollName::read(alloc, "ks") {
+            Ok(keyspace) => Ok(keyspace),
+            Err(_) => Err(NoMemory),
+        },
+    }
+}
+
+// The job of these options.
+fn job_of(alloc: Global, choices: Choices) -> Result<Job, NoMemory>
+    ensures { IfOk result (λ job. (job.keyspace ≡ keyspace_of (kept_keyspace choices.keyspace)) × (job.collections.items ≡ choices.collections.items)) }
+{
+    let Choices {
+        keyspace,
+        collections,
+    } = choices;
+    match keyspace_of(alloc, keyspace) {
+        Ok(keyspace) => Ok(Job {
+            keyspace,
+            collections,
+        }),
+        Err(fault) => Err(fault),
+    }
 }
 
 /// The job that the words after the program's name ask for.
@@ -117,22 +169,12 @@ pub fn read(alloc: Global, words: &[String]) -> Result<Job, WordFault>
     if command.as_str() != "run" {
         return Err(WordFault::Usage);
     }
-    let Choices {
-        keyspace,
-        collections,
-    } = match choices_of(alloc, options) {
+    let choices = match choices_of(alloc, options) {
         Ok(choices) => choices,
         Err(fault) => return Err(fault),
     };
-    let keyspace = match keyspace {
-        Some(keyspace) => keyspace,
-        None => match CollName::read(alloc, "ks") {
-            Ok(keyspace) => keyspace,
-            Err(_) => return Err(WordFault::NoMemory),
-        },
-    };
-    Ok(Job {
-        keyspace,
-        collections,
-    })
+    match job_of(alloc, choices) {
+        Ok(job) => Ok(job),
+        Err(_) => Err(WordFault::NoMemory),
+    }
 }
