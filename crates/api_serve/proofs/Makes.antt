@@ -1,12 +1,12 @@
 -- What a session makes of a store, one exchange behind another.
-use Rattle.std.proofs.Common.{◌≡◌, ◌≤◌, ◌++◌, ◌∷◌, [], ℕ, ℤ, List, Option, Some, None, refl, sym, ◌∙◌, ap, subst, append_assoc, arith}
+use Rattle.std.proofs.Common.{◌≡◌, ◌≤◌, ◌<◌, ◌+◌, ◌++◌, ◌∷◌, [], ℕ, ℤ, List, Option, Some, None, refl, sym, ◌∙◌, ap, subst, append_assoc, arith}
 use Rattle.std.proofs.lemmas.List.{append-nil}
 use Rattle.std.specs.Option.{option_map, ForSome}
 use Rattle.std.specs.List.{flat_map}
 use Rattle.reply_env.specs.Reply.{reply_text}
 use Rattle.reply_env.specs.declared.request.Request.{Request}
 use Rattle.cmd_tasks.specs.Session.{Exchange, IsSession, AreCounted, Asking, asks_for}
-use Rattle.store_core.specs.Counts.{AllBy}
+use Rattle.store_core.specs.Counts.{AllBy, opened_in}
 use Rattle.api_serve.specs.Grown.{Grown}
 use Rattle.api_serve.specs.Answered.{IsAskedBy}
 use Rattle.api_serve.specs.One.{Answers, Extends, exchange_of}
@@ -40,6 +40,18 @@ counted_append low high (Created by coll ∷ xs) ys p q = counted_append low hig
 counted_append low high (Dropped by coll ∷ xs) ys p q = counted_append low high xs ys p q
 counted_append low high (Changed by coll id change before tx ∷ xs) ys p q = counted_append low high xs ys p q
 counted_append low high (Failed by b a ∷ xs) ys p q = (p.0, p.1, counted_append low high xs ys p.2 q)
+
+opened_grows : (xs ys : List Entry) → opened_in xs ≤ opened_in (xs ++ ys)
+opened_grows [] ys = omega arith
+opened_grows (Opened k ∷ xs) ys = omega (arith, opened_grows xs ys)
+opened_grows (Created by coll ∷ xs) ys = opened_grows xs ys
+opened_grows (Dropped by coll ∷ xs) ys = opened_grows xs ys
+opened_grows (Changed by coll id change before tx ∷ xs) ys = opened_grows xs ys
+opened_grows (Failed by b a ∷ xs) ys = opened_grows xs ys
+
+-- a session that was opened stays so
+pub known_later : (k : ℕ) (journal longer : List Entry) (failed failed_then : ℕ) → Grown k journal failed longer failed_then → k < opened_in journal → k < opened_in longer
+known_later k journal longer failed failed_then g known = subst (λ (xs : List Entry). k < opened_in xs) (sym g.journal_is) (omega (arith, known, opened_grows journal g.more))
 
 pub Grown-none : (k : ℕ) (journal : List Entry) (failed : ℕ) → Grown k journal failed journal failed
 Grown-none k journal failed = record { more = []; journal_is = sym (append-nil journal); alone = tt; counted = tt; grows = omega arith }
@@ -112,10 +124,10 @@ Makes-append service a b c xs ys p q = record {
 }
 
 -- a request that was answered, as the session's next exchange
-pub one_made : (keyspace : List ℕ) (start : Option State) (session : ℕ) (moment : ℤ) (request : Request) (before after : Serving) (answered : Answered) → Answers keyspace session moment request start before.journal after.journal answered
+pub one_made : (keyspace : List ℕ) (start : Option State) (session : ℕ) (moment given : ℤ) (request : Request) (before after : Serving) (answered : Answered) → given ≡ moment → Answers keyspace session given request start before.journal after.journal answered
     → Grown session before.journal before.failed after.journal after.failed → after.traces ≡ before.traces ++ answered.trace ∷ [] → ForSome before.times (λ times. moment ≡ next_time times) → after.times ≡ option_map times_after before.times
     → (x : Exchange) × (x.reply ≡ answered.reply) × IsAskedBy keyspace request x.asking × Makes (service_of keyspace start session) before (x ∷ []) after
-one_made keyspace start session moment request before after answered a grown traces gives clock = (
+one_made keyspace start session moment given request before after answered same a grown traces gives clock = (
   exchange_of a.asking answered,
   refl,
   a.asked,
@@ -125,7 +137,7 @@ one_made keyspace start session moment request before after answered a grown tra
     more = answered.trace ∷ [];
     traces = traces;
     kept = ((refl, refl), tt);
-    moments = λ times told. (a.moment_is ∙ gives times told, tt);
+    moments = λ times told. (a.moment_is ∙ same ∙ gives times told, tt);
     clock = clock;
   },
 )

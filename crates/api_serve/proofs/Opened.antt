@@ -1,14 +1,15 @@
 -- A session that was opened, and the lines that it served.
-use Rattle.std.proofs.Common.{◌≡◌, ◌^◌, ◌++◌, ◌∷◌, [], ℕ, ℤ, List, Option, sym, ◌∙◌, ap, subst, append_assoc}
+use Rattle.std.proofs.Common.{◌≡◌, ◌≤◌, ◌^◌, refl, ◌++◌, ◌∷◌, [], ℕ, ℤ, List, Option, sym, ◌∙◌, ap, subst, append_assoc}
 use Rattle.std.specs.Option.{ForSome}
 use Rattle.outside_io.specs.Told.{Reading, Writing}
 use Rattle.store_core.specs.State.{State}
 use Rattle.store_core.specs.Counts.{opened_in}
+use Rattle.store_core.specs.declared.entry.Entry.{Entry}
 use Rattle.store_core.specs.declared.entry.Entry.TheVariants.{Opened}
 use Rattle.cmd_tasks.specs.Session.{IsSession, AreCounted}
 use Rattle.cmd_tasks.specs.declared.trace.Trace.{Trace}
-use Rattle.api_serve.specs.Session.{Serving, AreTraces, AreMoments}
-use Rattle.api_serve.specs.Shown.{service_of}
+use Rattle.api_serve.specs.Session.{Service, Serving, AreTraces, AreMoments}
+use Rattle.api_serve.specs.Shown.{service_of, serving_of}
 use Rattle.api_serve.specs.Run.{Serves, ServesLines, ServesInput, ServesWholeLines, ServesBefore, ServesFirst, ServesCut}
 use Rattle.api_serve.specs.Ends.{EndsRun}
 use Rattle.api_serve.specs.declared.run.RunHow.{RunHow}
@@ -46,9 +47,43 @@ module _ (P Q : List (List ℕ) → List ℕ → Type 0) (said : (lines : List (
   first_as h = record { input = h.input; lines = h.lines; output = h.output; count = h.count; read = h.read; first = h.first; served = said h.lines h.output h.served; written = h.written }
 
   pub ends_as : (how : RunHow) → EndsRun P from to before after how → EndsRun Q from to before after how
+  unfolding first_as
   ends_as Done h = record { input = h.input; lines = h.lines; output = h.output; read = h.read; size = h.size; ended = h.ended; has_lines = h.has_lines; served = said h.lines h.output h.served; written = h.written }
   ends_as (ReadFault b a) h = (h.0, (h.1.0, h.1.1, whole_as h.1.0 h.1.2))
   ends_as (WriteFault b a nothing) h = (h.0, record { first = first_as h.1.first; cut = h.1.cut })
   ends_as TooLong h = whole_as (2 ^ 40) h
   ends_as (WrongLine number) h = record { lines = h.lines; output = h.output; number_is = h.number_is; wrong = h.wrong; served = said h.lines h.output h.served; written = h.written }
   ends_as NoMemory h = first_as h
+
+-- what holds of all lines that may have been served holds at the end
+module _ (P : List (List ℕ) → List ℕ → Type 0) (X : Type 0) (gives : (lines : List (List ℕ)) (output : List ℕ) → P lines output → X) (from to : Reading) (before after : Writing) where
+  pub ends_give : (how : RunHow) → EndsRun P from to before after how → X
+  ends_give Done h = gives h.lines h.output h.served
+  ends_give (ReadFault b a) h = gives h.1.2.lines h.1.2.output h.1.2.served
+  ends_give (WriteFault b a nothing) h = gives h.1.first.lines h.1.first.output h.1.first.served
+  ends_give TooLong h = gives h.lines h.output h.served
+  ends_give (WrongLine number) h = gives h.lines h.output h.served
+  ends_give NoMemory h = gives h.lines h.output h.served
+
+-- the count of the keeper's faults never falls
+pub ends_grow : (keyspace : List ℕ) (start : Option State) (number : ℕ) (opened later : Serving) (from to : Reading) (before after : Writing) (how : RunHow)
+    → EndsRun (λ lines output. Serves (service_of keyspace start number) opened lines output later) from to before after how → opened.failed ≤ later.failed
+ends_grow keyspace start number opened later from to before after how h =
+    ends_give (λ lines output. Serves (service_of keyspace start number) opened lines output later) (opened.failed ≤ later.failed) (λ lines output s. s.made.grown.grows) from to before after how h
+
+-- the traces of a session that was just opened were none
+pub ends_begun : (service : Service) (journal : List Entry) (failed : ℕ) (traces : List Trace) (times : Option (List ℤ)) (later : Serving) (from to : Reading) (before after : Writing) (how : RunHow) → traces ≡ []
+    → EndsRun (λ lines output. Serves service (serving_of journal failed traces times) lines output later) from to before after how
+    → EndsRun (λ lines output. Serves service (serving_of journal failed [] times) lines output later) from to before after how
+ends_begun service journal failed traces times later from to before after how none h =
+    subst (λ (ts : List Trace). EndsRun (λ lines output. Serves service (serving_of journal failed ts times) lines output later) from to before after how) none h
+
+-- an opened session's end, from before it was opened
+pub ends_opened : (keyspace : List ℕ) (start : Option State) (number : ℕ) (before_journal opened_journal : List Entry) (failed : ℕ) (times : Option (List ℤ)) (later : Serving) (from to : Reading) (before after : Writing) (how : RunHow)
+    → number ≡ opened_in before_journal → opened_journal ≡ before_journal ++ Opened number ∷ [] → ForSome start (λ base. IsSession base opened_journal number [])
+    → EndsRun (λ lines output. Serves (service_of keyspace start number) (serving_of opened_journal failed [] times) lines output later) from to before after how
+    → EndsRun (ServesLines keyspace start (serving_of before_journal failed [] times) later) from to before after how
+ends_opened keyspace start number before_journal opened_journal failed times later from to before after how number_is journal begun h =
+    ends_as (λ lines output. Serves (service_of keyspace start number) (serving_of opened_journal failed [] times) lines output later) (ServesLines keyspace start (serving_of before_journal failed [] times) later)
+    (λ lines output s. opened_lines keyspace start number (serving_of before_journal failed [] times) (serving_of opened_journal failed [] times) later lines output number_is journal refl refl refl begun s)
+    from to before after how h

@@ -3,7 +3,7 @@ use Rattle.std.proofs.Common.{◌≡◌, ◌++◌, ◌∷◌, [], ℕ, List, tru
 use Rattle.std.proofs.lemmas.List.{append-nil}
 use Rattle.std.proofs.lemmas.List.Folds.{list_all-append}
 use Rattle.std.specs.List.{list_all}
-use Rattle.api_serve.specs.Session.{Service, Serving}
+use Rattle.api_serve.specs.Session.{Service, Serving, Makes}
 use Rattle.api_serve.specs.Separated.{is_free_of}
 use Rattle.api_serve.specs.Lines.{ended_lines, Splits}
 use Rattle.api_serve.specs.Request.{Asks, AskFor, AreRightLines, is_skipped, parts_of}

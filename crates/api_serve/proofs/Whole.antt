@@ -163,6 +163,7 @@ module _ (service : Service) (start : Serving) (from to : Reading) (before now :
       }
 
       pub ends_piece : CountsGrow before now → (how : RunHow) → EndsPiece service stage (fed run piece) later now after how → EndsRun (SaidOf service start later) from to' before after how
+      unfolding first_lines
       ends_piece grows (WrongLine number) w = before_wrong number w
       ends_piece grows (WriteFault b a nothing) h = (
         fault_earlier before now after b a nothing grows h.0,
@@ -233,6 +234,7 @@ module _ (service : Service) (start : Serving) (from to : Reading) (before now :
           (λ (z : (output : List ℕ) × Serves service stage (last_line run.lines) output later). last_cut z.0 0 z.1 h.written) h.served
 
       pub ends_finish : 0 < unread → CountsGrow before now → (how : RunHow) → FinishesAs service stage run later now after how → EndsRun (SaidOf service start later) from to' before after how
+      unfolding last_cut
       ends_finish left grows Done h = record {
         input = at.input;
         lines = at.lines ++ last_line run.lines;

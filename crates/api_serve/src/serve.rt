@@ -262,6 +262,7 @@ pub fn run_lines<S: Source, W: Sink, K: Keeper, C: Clock>(
         ⊎ ((result.how ≡ RunHow.NoMemory) × (result.traces.items ≡ []) × (store.new.journal ≡ store.old.journal)
         × (source.new ≡ source.old) × (sink.new ≡ sink.old)) }
     ensures bounded { (count : ℕ) × (count ≤ 2 ^ 40) × HasRead (S.reading source.old) (S.reading source.new) count }
+    ensures faults { K.failed store.old.keeper ≤ K.failed store.new.keeper }
     ensures base { SameBase store.old store.new }
     ensures lawful { IsLawful store.new }
 {

@@ -1,4 +1,4 @@
--- How a run on an open store ended, and what is handed back of a store that wasn't opened. Only the crate's private clauses cite it.
+-- How a run on an open store ended. Only the crate's private clauses cite it.
 use Rattle.std.specs.Prelude.{◌≡◌, ℕ, ℤ, List, [], Option}
 use Rattle.std.specs.Option.{option_map}
 use Rattle.outside_io.specs.Told.{Reading, Writing}
@@ -7,18 +7,10 @@ use Rattle.store_core.specs.State.{tables_of}
 use Rattle.store_core.specs.Journal.{replay}
 use Rattle.store_core.specs.Store.{Stored}
 use Rattle.store_core.specs.declared.entry.Entry.{Entry}
-use Rattle.store_core.specs.declared.open.OpenFault.{OpenFault}
-use Rattle.store_core.specs.declared.open.OpenFault.TheVariants.{KeeperFault, TooMany, NoMemory}
 use Rattle.cmd_tasks.specs.declared.trace.Trace.{Trace}
 use Rattle.api_serve.specs.Run.{ServesLines}
 use Rattle.api_serve.specs.Ends.{EndsRun}
 use Rattle.api_serve.specs.declared.run.RunHow.{RunHow}
-
--- the keeper that is handed back
-abbrev pub keeper_in : {K : Type 0} → OpenFault K → K
-keeper_in (KeeperFault keeper before after) = keeper
-keeper_in (TooMany keeper) = keeper
-keeper_in (NoMemory keeper) = keeper
 
 -- a session was opened and served its lines, the run ended so, and the keeper that is handed back has the tables that the history leaves
 pub record EndsStore {K : Type 0} (tables : K → Option Tables) (failed : K → ℕ) (keyspace : List ℕ) (store : Stored K) (times : Option (List ℤ)) (kept : K) (from to : Reading) (before after : Writing) (how : RunHow) : Type 0 where

@@ -3,13 +3,13 @@ ghost use Rattle.std.specs.Prelude.{◌≡◌, ◌⊎◌, ◌≤◌, ◌<◌, �
 ghost use Rattle.std.specs.Option.{ForSome};
 ghost use Rattle.outside_io.specs.Causes.{Rose};
 ghost use Rattle.outside_io.specs.Told.{IsHindered};
-ghost use Rattle.store_core.specs.Opening.{would_live, Refuses};
+ghost use Rattle.store_core.specs.Opening.{would_live, keeper_in};
 ghost use Rattle.store_core.specs.Store.{IsKept};
 ghost use Rattle.api_serve.specs.Run.{ServesInput, ServesWholeLines, ServesBefore, ServesCut, ServesFirst, HasRead};
 ghost use Rattle.dapi.specs.Words.{RunsOn, IsUsage};
 ghost use Rattle.dapi.specs.Top.{Runs, FailsOpening, IsOverfull};
 ghost use Rattle.dapi.specs.Note.{IsNoted, line_note, note_at, is_status, status_of, note_of, word_status, word_note, open_status, open_note};
-ghost use Rattle.dapi.specs.Ended.{keeper_in, EndsStore};
+ghost use Rattle.dapi.specs.Ended.{EndsStore};
 
 use crate::note::{note_of, status_of, word_note, word_status, write_note};
 use crate::words::{WordFault, read};

@@ -67,6 +67,12 @@ module _ {K : Type 0} (tables : K → Option Tables) where
   Prepares names old new p.Failed = IsBegun names old new
   Prepares names old new p.NoMemory = IsBegun names old new
 
+-- the keeper that is handed back where no store is opened
+abbrev pub keeper_in : {K : Type 0} → OpenFault K → K
+keeper_in (KeeperFault keeper before after) = keeper
+keeper_in (TooMany keeper) = keeper
+keeper_in (NoMemory keeper) = keeper
+
 module _ {K : Type 0} (tables : K → Option Tables) (failed : K → ℕ) where
   -- why a store isn't opened over a keeper, and how that is handed back
   abbrev pub Refuses : List Name → K → OpenFault K → Type 0

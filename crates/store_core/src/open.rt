@@ -4,7 +4,7 @@ ghost use Rattle.std.specs.Option.{option_map, ForSome};
 ghost use Rattle.outside_io.specs.Causes.{Rose};
 ghost use Rattle.col_keeper.specs.Tables.{names_of};
 ghost use Rattle.store_core.specs.State.{start_of};
-ghost use Rattle.store_core.specs.Opening.{is_among, missing, with_names, opened_with, would_live, Refuses, Prepares};
+ghost use Rattle.store_core.specs.Opening.{is_among, missing, with_names, opened_with, would_live, keeper_in, Refuses, Prepares};
 
 use crate::outcome::NoMemory;
 use crate::shapes::MOST;
@@ -144,6 +144,7 @@ impl<K: Keeper> Store<K> {
         ensures first { IfOk result (λ s. ForSome (K.tables keeper) (λ t. (s.first ≡ t.last + 1) × (would_live names.now t ≤ 100))) }
         ensures faults { IfOk result (λ s. K.failed keeper ≤ K.failed s.base) }
         ensures refused { IfErr result (Refuses K.tables K.failed names.now keeper) }
+        ensures grows { IfErr result (λ fault. K.failed keeper ≤ K.failed (keeper_in fault)) }
     {
         let mut keeper = keeper;
         let before = keeper.faults();

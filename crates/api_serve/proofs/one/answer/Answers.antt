@@ -1,6 +1,9 @@
-use Rattle.std.proofs.Common.{[], refl, inl, inr, ◌∙◌}
+use Rattle.std.proofs.Common.{Err, subst, rules}
+use Rattle.cmd_grammar.specs.Requests.{IsReadAs}
+use Rattle.cmd_grammar.specs.declared.fault.CommandFault.{CommandFault}
 use Rattle.cmd_tasks.specs.Session.{asks_for, is_refused, is_unread}
 use Rattle.cmd_grammar.specs.Commands.{command_tree}
+use Rattle.reply_env.specs.declared.reply.ErrorItem.{ErrorItem}
 use Rattle.api_serve.specs.One.{exchange_of}
 use Rattle.api_serve.proofs.one.answer.Goals as goal
 
@@ -8,30 +11,30 @@ pub returns-in-Some-clause-answers : goal.returns-in-Some-clause-answers
 returns-in-Some-clause-answers g c = record {
   asking = asks_for c.in-Some.coll (command_tree c.in-Ok.command);
   asked = (c.in-Ok.ensures.answers, c.in-Some.ensures);
-  moment_is = c.perform.ensures.performs.moment_is;
+  moment_is = search rules;
   session_is = c.perform.ensures.performs.session_is;
 }
 
 pub returns-in-None-clause-answers : goal.returns-in-None-clause-answers
-returns-in-None-clause-answers g c = let u = c.unread.ensures in record {
+returns-in-None-clause-answers g c = let u = c.unread-in-None.ensures in record {
   asking = is_unread;
   asked = tt;
-  moment_is = u.moment_is;
-  session_is = λ base told earlier was. c.a_request_begins.ensures base c.args.store.now.journal c.args.session earlier (exchange_of is_unread c.unread.result) u.trace (u.trace, u.reply) was;
+  moment_is = search rules;
+  session_is = λ base told earlier was. c.a_request_begins.ensures base c.args.store.now.journal c.args.session earlier (exchange_of is_unread c.unread-in-None.result) u.trace (u.trace, u.reply) was;
 }
 
 pub returns-in-Err-NoMemory-clause-answers : goal.returns-in-Err-NoMemory-clause-answers
 returns-in-Err-NoMemory-clause-answers g c = let u = c.unread.ensures in record {
   asking = is_unread;
   asked = tt;
-  moment_is = u.moment_is;
+  moment_is = search rules;
   session_is = λ base told earlier was. c.a_request_begins.ensures base c.args.store.now.journal c.args.session earlier (exchange_of is_unread c.unread.result) u.trace (u.trace, u.reply) was;
 }
 
 pub returns-in-Err-Refused-clause-answers : goal.returns-in-Err-Refused-clause-answers
-returns-in-Err-Refused-clause-answers g c = let u = c.refused.ensures in let error = record { code = c.in-Err-Refused.code; message = c.in-Err-Refused.message } in record {
+returns-in-Err-Refused-clause-answers g c = let u = c.refused.ensures in let error : ErrorItem = record { code = c.in-Err-Refused.code; message = c.in-Err-Refused.message } in record {
   asking = is_refused error;
-  asked = c.in-Err-Refused.ensures.answers;
-  moment_is = u.moment_is;
+  asked = subst (λ (f : CommandFault). IsReadAs c.args.keyspace.now c.args.request.now (Err f)) c.in-Err-Refused.field-0-is c.in-Err-Refused.ensures.answers;
+  moment_is = search rules;
   session_is = λ base told earlier was. c.a_request_begins.ensures base c.args.store.now.journal c.args.session earlier (exchange_of (is_refused error) c.refused.result) u.trace (u.trace, u.reply) was;
 }

@@ -1,0 +1,322 @@
+-- What the program's call answers, by how its run ended.
+use Rattle.std.proofs.Common.{◌≡◌, ◌≤◌, ◌<◌, ◌^◌, ◌⊎◌, [], ◌∷◌, ℕ, ℤ, List, Option, Some, None, IsTrue, true, false, refl, sym, ◌∙◌, ap, subst, arith, inl, inr, codes}
+use Rattle.std.specs.Option.{option_map, ForSome}
+use Rattle.outside_io.specs.Causes.{Rose, Rose-earlier, Rose-later}
+use Rattle.outside_io.specs.Told.{Reading, Writing, IsHindered, then_left-nil}
+use Rattle.col_keeper.specs.Tables.{Tables}
+use Rattle.store_core.specs.State.{State, start_of, tables_of}
+use Rattle.store_core.specs.Journal.{replay}
+use Rattle.cmd_tasks.specs.declared.trace.Trace.{Trace}
+use Rattle.store_core.specs.Store.{Stored}
+use Rattle.store_core.specs.Opening.{opened_with, would_live, keeper_in, Refuses}
+use Rattle.store_core.specs.declared.entry.Entry.{Entry}
+use Rattle.store_core.specs.declared.open.OpenFault.{OpenFault}
+use Rattle.store_core.specs.declared.open.OpenFault.TheVariants as opens
+use Rattle.api_serve.specs.Session.{Serving}
+use Rattle.api_serve.specs.Run.{ServesLines, ServesInput, ServesWholeLines, ServesBefore, ServesFirst, ServesCut, HasRead}
+use Rattle.api_serve.specs.Ends.{EndsRun, IsWriteFault}
+use Rattle.api_serve.specs.declared.run.RunHow.{RunHow}
+use Rattle.api_serve.specs.declared.run.RunHow.TheVariants.{Done, ReadFault, WriteFault, TooLong, WrongLine, NoMemory}
+use Rattle.dapi.specs.declared.words.WordFault.{WordFault}
+use Rattle.dapi.specs.declared.words.WordFault.TheVariants as faults
+use Rattle.dapi.specs.Words.{RunsOn, IsUsage, IsWordFault}
+use Rattle.dapi.specs.Note.{IsNoted, status_of, note_of, note_at, line_note, word_status, word_note, open_status, open_note, is_status}
+use Rattle.dapi.specs.Ended.{EndsStore}
+use Rattle.dapi.specs.Top.{Runs, FailsOpening, IsOverfull}
+use Rattle.dapi.proofs.Choosing.{same_collections}
+use Rattle.dapi.proofs.Notes.{noted_by}
+
+-- ---- each status
+
+pub known_status : (how : RunHow) → IsTrue (is_status (status_of how))
+known_status Done = refl
+known_status (ReadFault b a) = refl
+known_status (WriteFault b a nothing) = refl
+known_status TooLong = refl
+known_status (WrongLine line) = refl
+known_status NoMemory = refl
+
+pub never_one : (how : RunHow) → status_of how ≡ 1 → ⊥
+never_one Done e = Prim.cc e
+never_one (ReadFault b a) e = Prim.cc e
+never_one (WriteFault b a nothing) e = Prim.cc e
+never_one TooLong e = Prim.cc e
+never_one (WrongLine line) e = Prim.cc e
+never_one NoMemory e = Prim.cc e
+
+pub never_four : (how : RunHow) → status_of how ≡ 4 → ⊥
+never_four Done e = Prim.cc e
+never_four (ReadFault b a) e = Prim.cc e
+never_four (WriteFault b a nothing) e = Prim.cc e
+never_four TooLong e = Prim.cc e
+never_four (WrongLine line) e = Prim.cc e
+never_four NoMemory e = Prim.cc e
+
+-- ---- a run that ended so, by its status
+
+module _ (P : List (List ℕ) → List ℕ → Type 0) (from to : Reading) (before after : Writing) where
+  pub when_done : (how : RunHow) → status_of how ≡ 0 → EndsRun P from to before after how → ServesInput P from to before after
+  when_done Done e h = h
+  when_done (ReadFault b a) e h = absurd (Prim.cc e)
+  when_done (WriteFault b a nothing) e h = absurd (Prim.cc e)
+  when_done TooLong e h = absurd (Prim.cc e)
+  when_done (WrongLine line) e h = absurd (Prim.cc e)
+  when_done NoMemory e h = absurd (Prim.cc e)
+
+  pub when_unread : (how : RunHow) → status_of how ≡ 2 → EndsRun P from to before after how → (count : ℕ) × (count < 2 ^ 40) × ServesWholeLines P from to before after count
+  when_unread (ReadFault b a) e h = h.1
+  when_unread Done e h = absurd (Prim.cc e)
+  when_unread (WriteFault b a nothing) e h = absurd (Prim.cc e)
+  when_unread TooLong e h = absurd (Prim.cc e)
+  when_unread (WrongLine line) e h = absurd (Prim.cc e)
+  when_unread NoMemory e h = absurd (Prim.cc e)
+
+  pub why_unread : (how : RunHow) → status_of how ≡ 2 → EndsRun P from to before after how → Rose from.failed to.failed
+  why_unread (ReadFault b a) e h = subst (λ (n : ℕ). Rose from.failed n) h.0.2 (Rose-earlier from.failed b a h.0.0 h.0.1)
+  why_unread Done e h = absurd (Prim.cc e)
+  why_unread (WriteFault b a nothing) e h = absurd (Prim.cc e)
+  why_unread TooLong e h = absurd (Prim.cc e)
+  why_unread (WrongLine line) e h = absurd (Prim.cc e)
+  why_unread NoMemory e h = absurd (Prim.cc e)
+
+  pub when_unwritten : (how : RunHow) → status_of how ≡ 3 → EndsRun P from to before after how → ServesCut P from to before after
+  when_unwritten (WriteFault b a nothing) e h = h.1
+  when_unwritten Done e h = absurd (Prim.cc e)
+  when_unwritten (ReadFault b a) e h = absurd (Prim.cc e)
+  when_unwritten TooLong e h = absurd (Prim.cc e)
+  when_unwritten (WrongLine line) e h = absurd (Prim.cc e)
+  when_unwritten NoMemory e h = absurd (Prim.cc e)
+
+  pub why_unwritten : (how : RunHow) → status_of how ≡ 3 → EndsRun P from to before after how → IsHindered before after
+  why_unwritten (WriteFault b a false) e h = inl (subst (λ (n : ℕ). Rose before.failed n) h.0.2 (Rose-earlier before.failed b a h.0.0 h.0.1))
+  why_unwritten (WriteFault b a true) e h = inr h.0.1
+  why_unwritten Done e h = absurd (Prim.cc e)
+  why_unwritten (ReadFault b a) e h = absurd (Prim.cc e)
+  why_unwritten TooLong e h = absurd (Prim.cc e)
+  why_unwritten (WrongLine line) e h = absurd (Prim.cc e)
+  why_unwritten NoMemory e h = absurd (Prim.cc e)
+
+  pub when_long : (how : RunHow) → status_of how ≡ 5 → EndsRun P from to before after how → ServesWholeLines P from to before after (2 ^ 40)
+  when_long TooLong e h = h
+  when_long Done e h = absurd (Prim.cc e)
+  when_long (ReadFault b a) e h = absurd (Prim.cc e)
+  when_long (WriteFault b a nothing) e h = absurd (Prim.cc e)
+  when_long (WrongLine line) e h = absurd (Prim.cc e)
+  when_long NoMemory e h = absurd (Prim.cc e)
+
+  pub when_short : (how : RunHow) → status_of how ≡ 9 → EndsRun P from to before after how → ServesFirst P from to before after
+  when_short NoMemory e h = h
+  when_short Done e h = absurd (Prim.cc e)
+  when_short (ReadFault b a) e h = absurd (Prim.cc e)
+  when_short (WriteFault b a nothing) e h = absurd (Prim.cc e)
+  when_short TooLong e h = absurd (Prim.cc e)
+  when_short (WrongLine line) e h = absurd (Prim.cc e)
+
+  line_of : RunHow → ℕ
+  line_of Done = 0
+  line_of (ReadFault b a) = 0
+  line_of (WriteFault b a nothing) = 0
+  line_of TooLong = 0
+  line_of (WrongLine line) = line
+  line_of NoMemory = 0
+
+  pub when_wrong : (how : RunHow) → status_of how ≡ 6 → EndsRun P from to before after how → ServesBefore P from to before after (line_of how)
+  when_wrong (WrongLine line) e h = h
+  when_wrong Done e h = absurd (Prim.cc e)
+  when_wrong (ReadFault b a) e h = absurd (Prim.cc e)
+  when_wrong (WriteFault b a nothing) e h = absurd (Prim.cc e)
+  when_wrong TooLong e h = absurd (Prim.cc e)
+  when_wrong NoMemory e h = absurd (Prim.cc e)
+
+note_of_line : (how : RunHow) → status_of how ≡ 6 → note_of how ≡ line_note (line_of how)
+note_of_line (WrongLine line) e = refl
+note_of_line Done e = absurd (Prim.cc e)
+note_of_line (ReadFault b a) e = absurd (Prim.cc e)
+note_of_line (WriteFault b a nothing) e = absurd (Prim.cc e)
+note_of_line TooLong e = absurd (Prim.cc e)
+note_of_line NoMemory e = absurd (Prim.cc e)
+
+-- ---- a run on a store that was opened
+
+told_start : (count : ℕ) (collections : List (List ℕ)) (made told : Option Tables) → made ≡ option_map (opened_with collections) told → option_map (start_of count) made ≡ option_map (λ t. start_of count (opened_with collections t)) told
+told_start count collections made None e = ap (option_map (start_of count)) e
+told_start count collections made (Some t) e = ap (option_map (start_of count)) e
+
+module _ {K : Type 0} (tables : K → Option Tables) (failed : K → ℕ) (words : List (List ℕ)) (given kept : K) (keyspace : List ℕ) (collections : List (List ℕ)) (store : Stored K) (times : Option (List ℤ))
+    (asked : RunsOn words keyspace collections) (begins : (store.journal ≡ []) × (store.keeper ≡ store.base)) (made : tables store.base ≡ option_map (opened_with collections) (tables given))
+    (start : store.start ≡ option_map (start_of (failed store.base)) (tables store.base)) (grows : failed given ≤ failed store.base) where
+
+  module _ (from to : Reading) (before after : Writing) (how : RunHow) (Ended : (List (List ℕ) → List ℕ → Type 0) → Type 0) where
+    runs_so : ((P : List (List ℕ) → List ℕ → Type 0) → EndsRun P from to before after how → Ended P) → EndsStore tables failed keyspace store times kept from to before after how → Runs tables failed words given kept times Ended
+    runs_so so e = record {
+      keyspace = keyspace;
+      collections = collections;
+      asked = asked;
+      count = failed store.base;
+      counts = grows;
+      start = store.start;
+      start_is = start ∙ told_start (failed store.base) collections (tables store.base) (tables given) made;
+      history = e.history;
+      traces = e.traces;
+      later = e.later;
+      ended =
+          subst (λ (k : K). Ended (ServesLines keyspace store.start (record { journal = []; failed = failed k; traces = []; times = times }) (record { journal = e.history; failed = failed kept; traces = e.traces; times = e.later }))) begins.1
+          (subst (λ (h : List Entry). Ended (ServesLines keyspace store.start (record { journal = h; failed = failed store.keeper; traces = []; times = times }) (record { journal = e.history; failed = failed kept; traces = e.traces; times = e.later }))) begins.0 (so _ e.ended));
+      tables_are = e.tables_are;
+    }
+
+  -- how it ended, and that it did, or that no session was opened
+  module _ {S W : Type 0} (source source' : S) (sink sink' : W) (from to : Reading) (before after : Writing) (status : ℕ) (how : RunHow) (is : status ≡ status_of how)
+      (ran : EndsStore tables failed keyspace store times kept from to before after how ⊎ ((how ≡ NoMemory) × (source' ≡ source) × (sink' ≡ sink))) where
+    begun : (n : ℕ) → (9 ≡ n → ⊥) → status ≡ n → EndsStore tables failed keyspace store times kept from to before after how
+    begun n other e = begun_with ran
+      where
+        begun_with : EndsStore tables failed keyspace store times kept from to before after how ⊎ ((how ≡ NoMemory) × (source' ≡ source) × (sink' ≡ sink)) → EndsStore tables failed keyspace store times kept from to before after how
+        begun_with (inl e') = e'
+        begun_with (inr none) = absurd (other (sym (ap status_of none.0) ∙ sym is ∙ e))
+
+    status_is : (n : ℕ) → status ≡ n → status_of how ≡ n
+    status_is n e = sym is ∙ e
+
+    pub ran_whole : status ≡ 0 → Runs tables failed words given kept times (λ Served. ServesInput Served from to before after)
+    ran_whole e = runs_so from to before after how (λ Served. ServesInput Served from to before after) (λ P. when_done P from to before after how (status_is 0 e)) (begun 0 (λ n. Prim.cc n) e)
+
+    pub ran_unread : status ≡ 2 → Runs tables failed words given kept times (λ Served. (count : ℕ) × (count < 2 ^ 40) × ServesWholeLines Served from to before after count)
+    ran_unread e = runs_so from to before after how (λ Served. (count : ℕ) × (count < 2 ^ 40) × ServesWholeLines Served from to before after count) (λ P. when_unread P from to before after how (status_is 2 e)) (begun 2 (λ n. Prim.cc n) e)
+
+    pub cause_unread : status ≡ 2 → Rose from.failed to.failed
+    cause_unread e = why_unread _ from to before after how (status_is 2 e) (begun 2 (λ n. Prim.cc n) e).ended
+
+    pub ran_unwritten : status ≡ 3 → Runs tables failed words given kept times (λ Served. ServesCut Served from to before after)
+    ran_unwritten e = runs_so from to before after how (λ Served. ServesCut Served from to before after) (λ P. when_unwritten P from to before after how (status_is 3 e)) (begun 3 (λ n. Prim.cc n) e)
+
+    pub cause_unwritten : status ≡ 3 → IsHindered before after
+    cause_unwritten e = why_unwritten _ from to before after how (status_is 3 e) (begun 3 (λ n. Prim.cc n) e).ended
+
+    pub ran_long : status ≡ 5 → Runs tables failed words given kept times (λ Served. ServesWholeLines Served from to before after (2 ^ 40))
+    ran_long e = runs_so from to before after how (λ Served. ServesWholeLines Served from to before after (2 ^ 40)) (λ P. when_long P from to before after how (status_is 5 e)) (begun 5 (λ n. Prim.cc n) e)
+
+    pub ran_wrong : (Noted : List ℕ → Type 0) → Noted (note_of how) → status ≡ 6 → (line : ℕ) × Noted (line_note line) × Runs tables failed words given kept times (λ Served. ServesBefore Served from to before after line)
+    ran_wrong Noted noted e = (
+      line_of how,
+      subst Noted (note_of_line how (status_is 6 e)) noted,
+      runs_so from to before after how (λ Served. ServesBefore Served from to before after (line_of how)) (λ P. when_wrong P from to before after how (status_is 6 e)) (begun 6 (λ n. Prim.cc n) e),
+    )
+
+    pub ran_short : status ≡ 9 → ((source' ≡ source) × (sink' ≡ sink)) ⊎ Runs tables failed words given kept times (λ Served. ServesFirst Served from to before after)
+    ran_short e = short ran
+      where
+        short : EndsStore tables failed keyspace store times kept from to before after how ⊎ ((how ≡ NoMemory) × (source' ≡ source) × (sink' ≡ sink))
+            → ((source' ≡ source) × (sink' ≡ sink)) ⊎ Runs tables failed words given kept times (λ Served. ServesFirst Served from to before after)
+        short (inl e') = inr (runs_so from to before after how (λ Served. ServesFirst Served from to before after) (λ P. when_short P from to before after how (status_is 9 e)) e')
+        short (inr none) = inl none.1
+
+    pub ran_noted : (Noted : List ℕ → Type 0) → Noted (note_of how) → (status ≡ 6 → ⊥) → Noted (note_at status)
+    ran_noted Noted noted other = subst Noted (noted_by how (λ six. other (is ∙ six)) ∙ sym (ap note_at is)) noted
+
+    pub ran_known : IsTrue (is_status status)
+    ran_known = ap is_status is ∙ known_status how
+
+    pub ran_not_one : status ≡ 1 → ⊥
+    ran_not_one e = never_one how (status_is 1 e)
+
+    pub ran_not_four : status ≡ 4 → ⊥
+    ran_not_four e = never_four how (status_is 4 e)
+
+-- ---- a store that wasn't opened
+
+module _ {K : Type 0} (tables : K → Option Tables) (failed : K → ℕ) (words : List (List ℕ)) (given kept : K) (keyspace : List ℕ) (collections : List (List ℕ)) (status : ℕ) (asked : RunsOn words keyspace collections) where
+  pub refused_status : (fault : OpenFault K) → status ≡ open_status fault → (status ≡ 4) ⊎ (status ≡ 9)
+  refused_status (opens.KeeperFault keeper b a) e = inl e
+  refused_status (opens.TooMany keeper) e = inl e
+  refused_status (opens.NoMemory keeper) e = inr e
+
+  pub refused_so : (Noted : List ℕ → Type 0) (fault : OpenFault K) → status ≡ open_status fault → kept ≡ keeper_in fault → Refuses tables failed collections given fault → Noted (open_note fault) → status ≡ 4
+      → (Rose (failed given) (failed kept) × FailsOpening tables failed words given kept × Noted (codes "keeper fault\n")) ⊎ (IsOverfull tables failed words given kept × Noted (codes "too many collections\n"))
+  refused_so Noted (opens.KeeperFault keeper b a) is back refuses noted four =
+      inl (
+        subst (λ (k : K). Rose (failed given) (failed k)) (sym back) (subst (λ (n : ℕ). Rose (failed given) n) refuses.1 (subst (λ (n : ℕ). Rose n a) refuses.0 refuses.2)),
+        record { keyspace = keyspace; collections = collections; asked = asked; made = refuses.3.0; tables_are = ap tables back ∙ refuses.3.1 },
+        noted,
+      )
+  refused_so Noted (opens.TooMany keeper) is back refuses noted four =
+      inr (record { keyspace = keyspace; collections = collections; asked = asked; over = λ t told. let over = refuses t told in (over.0, ap tables back ∙ over.1) }, noted)
+  refused_so Noted (opens.NoMemory keeper) is back refuses noted four = absurd (Prim.cc (sym is ∙ four))
+
+  pub refused_noted : (Noted : List ℕ → Type 0) (fault : OpenFault K) → status ≡ open_status fault → Noted (open_note fault) → (status ≡ 4 → ⊥) → Noted (note_at status)
+  refused_noted Noted (opens.KeeperFault keeper b a) is noted other = absurd (other is)
+  refused_noted Noted (opens.TooMany keeper) is noted other = absurd (other is)
+  refused_noted Noted (opens.NoMemory keeper) is noted other = subst Noted (sym (ap note_at is)) noted
+
+  pub refused_known : (fault : OpenFault K) → status ≡ open_status fault → IsTrue (is_status status)
+  refused_known (opens.KeeperFault keeper b a) e = ap is_status e
+  refused_known (opens.TooMany keeper) e = ap is_status e
+  refused_known (opens.NoMemory keeper) e = ap is_status e
+
+  pub refused_not : (n : ℕ) → (4 ≡ n → ⊥) → (9 ≡ n → ⊥) → (fault : OpenFault K) → status ≡ open_status fault → status ≡ n → ⊥
+  refused_not n four nine (opens.KeeperFault keeper b a) is e = four (sym is ∙ e)
+  refused_not n four nine (opens.TooMany keeper) is e = four (sym is ∙ e)
+  refused_not n four nine (opens.NoMemory keeper) is e = nine (sym is ∙ e)
+
+-- ---- words that can't be used
+
+module _ (words : List (List ℕ)) (status : ℕ) where
+  pub unused_status : (fault : WordFault) → status ≡ word_status fault → (status ≡ 1) ⊎ (status ≡ 9)
+  unused_status faults.Usage e = inl e
+  unused_status faults.NoMemory e = inr e
+
+  pub unused_usage : (fault : WordFault) → status ≡ word_status fault → IsWordFault words fault → status ≡ 1 → IsUsage words
+  unused_usage faults.Usage is usage one = usage
+  unused_usage faults.NoMemory is usage one = absurd (Prim.cc (sym is ∙ one))
+
+  pub unused_noted : (Noted : List ℕ → Type 0) (fault : WordFault) → status ≡ word_status fault → Noted (word_note fault) → Noted (note_at status)
+  unused_noted Noted faults.Usage is noted = subst Noted (sym (ap note_at is)) noted
+  unused_noted Noted faults.NoMemory is noted = subst Noted (sym (ap note_at is)) noted
+
+  pub unused_known : (fault : WordFault) → status ≡ word_status fault → IsTrue (is_status status)
+  unused_known faults.Usage e = ap is_status e
+  unused_known faults.NoMemory e = ap is_status e
+
+  pub unused_not : (n : ℕ) → (1 ≡ n → ⊥) → (9 ≡ n → ⊥) → (fault : WordFault) → status ≡ word_status fault → status ≡ n → ⊥
+  unused_not n one nine faults.Usage is e = one (sym is ∙ e)
+  unused_not n one nine faults.NoMemory is e = nine (sym is ∙ e)
+
+  -- where the words run on a keyspace, memory was wanting
+  pub unused_run : (fault : WordFault) → status ≡ word_status fault → IsWordFault words fault → (keyspace : List ℕ) (collections : List (List ℕ)) → RunsOn words keyspace collections → status ≡ 9
+  unused_run faults.Usage is usage keyspace collections run = absurd (usage keyspace collections run)
+  unused_run faults.NoMemory is usage keyspace collections run = is
+
+-- ---- reads
+
+pub none_read : (reading : Reading) → (count : ℕ) × (count ≤ 2 ^ 40) × HasRead reading reading count
+none_read reading = (0, omega arith, ([], refl, sym (then_left-nil reading.left)))
+
+-- no store is opened where too many would live
+pub opened_few : (words : List (List ℕ)) (keyspace₁ keyspace₂ : List ℕ) (cs ds : List (List ℕ)) (tables : Option Tables) (status : ℕ) → RunsOn words keyspace₁ cs → RunsOn words keyspace₂ ds → ForSome tables (λ t. would_live cs t ≤ 100)
+    → ForSome tables (λ t. 100 < would_live ds t → (status ≡ 4) ⊎ (status ≡ 9))
+opened_few words keyspace₁ keyspace₂ cs ds tables status a b few t told over =
+    let most : would_live ds t ≤ 100 = subst (λ (ns : List (List ℕ)). would_live ns t ≤ 100) (same_collections words keyspace₁ keyspace₂ cs ds a b) (few t told) in
+    absurd (omega (arith, most, over))
+
+-- ---- a run on a store, and what its keeper is then
+
+module _ {K : Type 0} (tables : K → Option Tables) (failed : K → ℕ) (keyspace : List ℕ) (old new : Stored K) (times later : Option (List ℤ)) (kept : K) (from to : Reading) (before after : Writing) (how : RunHow) (back : kept ≡ new.keeper)
+    (tables_are : tables kept ≡ option_map (λ s. tables_of (replay s new.journal)) new.start) (base : new.start ≡ old.start) where
+  pub store_ends : (traces : List Trace) → EndsRun (ServesLines keyspace old.start (record { journal = old.journal; failed = failed old.keeper; traces = []; times = times }) (record { journal = new.journal; failed = failed new.keeper; traces = traces; times = later })) from to before after how
+      → EndsStore tables failed keyspace old times kept from to before after how
+  store_ends traces ended = record {
+    history = new.journal;
+    traces = traces;
+    later = later;
+    ended =
+        subst (λ (k : K). EndsRun (ServesLines keyspace old.start (record { journal = old.journal; failed = failed old.keeper; traces = []; times = times }) (record { journal = new.journal; failed = failed k; traces = traces; times = later })) from to before after how)
+        (sym back) ended;
+    tables_are = tables_are ∙ ap (option_map (λ s. tables_of (replay s new.journal))) base;
+  }
+
+  pub store_ran : (Kept : List Trace → Type 0) (None_kept Same_journal Same_source Same_sink : Type 0)
+      → ((traces : List Trace) × Kept traces × EndsRun (ServesLines keyspace old.start (record { journal = old.journal; failed = failed old.keeper; traces = []; times = times }) (record { journal = new.journal; failed = failed new.keeper; traces = traces; times = later })) from to before after how)
+      ⊎ ((how ≡ NoMemory) × None_kept × Same_journal × Same_source × Same_sink)
+      → EndsStore tables failed keyspace old times kept from to before after how ⊎ ((how ≡ NoMemory) × Same_source × Same_sink)
+  store_ran Kept None_kept Same_journal Same_source Same_sink (inl e) = inl (store_ends e.0 e.2)
+  store_ran Kept None_kept Same_journal Same_source Same_sink (inr none) = inr (none.0, none.3, none.4)
