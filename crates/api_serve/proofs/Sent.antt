@@ -6,8 +6,11 @@ use Rattle.outside_io.specs.Told.{Writing, Takes, taken_then}
 use Rattle.api_serve.specs.Session.{Service, Serving}
 use Rattle.api_serve.specs.Lines.{Splits, BeginsWith, ended_lines, last_line}
 use Rattle.api_serve.specs.Piece.{TakesLines, TakesFirst, FindsWrong, StopsAt, TakesLast}
-use Rattle.api_serve.specs.Sent.{ServesPiece, AnswersBefore, AnswersFirst, AnswersCut, AnswersLast, AnswersLastCut}
+use Rattle.api_serve.specs.Sent.{ServesPiece, AnswersBefore, AnswersFirst, AnswersCut, EndsPiece, AnswersLast, AnswersLastCut}
+use Rattle.api_serve.specs.Ends.{IsWriteEnd}
 use Rattle.api_serve.proofs.Cuts.{take_all}
+use Rattle.api_serve.specs.declared.run.RunHow.{RunHow}
+use Rattle.api_serve.specs.declared.run.RunHow.TheVariants as ends
 use Rattle.api_serve.specs.declared.run.Run.{Run}
 use Rattle.api_serve.specs.declared.run.Stop.{Stop}
 use Rattle.api_serve.specs.declared.run.Stop.TheVariants.{Wrong, NoMemory}
@@ -94,6 +97,16 @@ module _ (service : Service) (stage : Serving) (old : Run) (later : Serving) whe
           };
           cut = omega (arith, short, length-take t.printed t.output);
         }
+
+    -- a write was hindered
+    pub sent_fault : (mid : Run) (before after : Writing) (how : RunHow) → TakesFirst service stage old later mid → (n : ℕ) × (n < length mid.out.items) × Takes before (take n mid.out.items) after → IsWriteEnd before after how
+        → EndsPiece service stage old later before after how
+    sent_fault mid before after (ends.WriteFault b a nothing) t cut fault = (fault, sent_cut mid before after cut.0 t cut.1 cut.2)
+    sent_fault mid before after ends.Done t cut fault = absurd fault
+    sent_fault mid before after (ends.ReadFault b a) t cut fault = absurd fault
+    sent_fault mid before after ends.TooLong t cut fault = absurd fault
+    sent_fault mid before after (ends.WrongLine number) t cut fault = absurd fault
+    sent_fault mid before after ends.NoMemory t cut fault = absurd fault
 
     pub sent_last : (mid : Run) (before after : Writing) → TakesLast service stage old later mid → Takes before mid.out.items after → AnswersLast service stage old later before after
     sent_last mid before after t takes = record { output = t.output; served = t.served; written = takes ∙ ap (taken_then before.taken) (appended mid t.output t.written) }

@@ -122,6 +122,17 @@ module _ (service : Service) (stage : Serving) (old : Run) (between : Serving) (
       → FindsWrong service stage old between new number
   partway_hopeless new number free hopeless out number_is = partway_stops between new number refl (inr (free, hopeless)) out number_is
 
+-- a piece for which memory was wanting
+pub unfed : (service : Service) (stage : Serving) (old new : Run) → new.out.items ≡ old.out.items → TakesFirst service stage old stage new
+unfed service stage old new out = record {
+  lines = [];
+  output = [];
+  printed = 0;
+  begins = record { rest = old.lines; text = refl; each = refl };
+  served = Serves-none service stage;
+  written = out ∙ sym (append-nil old.out.items);
+}
+
 -- at the input's end nothing waits, or one line
 pub last_none : (service : Service) (stage : Serving) (old new : Run) → old.lines ≡ [] → new.out.items ≡ old.out.items → TakesLast service stage old stage new
 last_none service stage old new none out = record {

@@ -1,5 +1,6 @@
-use Rattle.std.proofs.Common.{drop, ◌+◌, refl, ap, ◌∙◌}
-use Rattle.api_serve.proofs.Waits.{partway_line, served_front, same_base}
+use Rattle.std.proofs.Common.{drop, ◌+◌, refl, ap, ◌∙◌, Err}
+use Rattle.api_serve.specs.declared.one.LineStop.{LineStop}
+use Rattle.api_serve.proofs.Waits.{partway_start, partway_line, partway_short, served_front, short_front, same_base}
 use Rattle.api_serve.proofs.run.serve_lines.Goals as goal
 
 pub lines-preserved : goal.lines-preserved
@@ -12,3 +13,13 @@ lines-preserved g c = let told = c.in-Ok.ensures in record {
   known = c.serve_line.ensures.known;
   lawful = c.serve_line.ensures.lawful;
 }
+
+pub lines-init : goal.lines-init
+lines-init g c = record { way = partway_start _ _ c.args.run.now; base = (refl, refl, refl); known = c.requires.known; lawful = c.journal_len.ensures.lawful }
+
+pub returns-in-Err-NoMemory-clause-stopped : goal.returns-in-Err-NoMemory-clause-stopped
+returns-in-Err-NoMemory-clause-stopped g c =
+    partway_short _ _ c.args.run.now _ c.lines.run c.lines.invariant.way _ _ c.in-Some.len c.in-Some.ensures.some
+    (short_front c.args.keyspace.now c.args.store.now.start c.lines.store.start c.args.session _ c.lines.run.lines c.line_len.new.self c.front-line.result.now c.in-Some.len _ c.lines.invariant.base.1 c.in-Some.ensures.same c.front-line.ensures
+    (c.in-Err-NoMemory.ensures.short (ap (λ (s : LineStop). Err s) c.in-Err-NoMemory.field-0-is)))
+    c.in-Err-NoMemory.ensures.kept

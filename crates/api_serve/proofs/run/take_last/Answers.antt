@@ -1,4 +1,5 @@
-use Rattle.std.proofs.Common.{◌≡◌, ◌∷◌, [], ℕ, List, length, true, false, refl, sym, ◌∙◌, ap, subst, arith}
+use Rattle.api_serve.specs.declared.one.LineStop.{LineStop}
+use Rattle.std.proofs.Common.{Err, ◌≡◌, ◌∷◌, [], ℕ, List, length, true, false, refl, sym, ◌∙◌, ap, subst, arith}
 use Rattle.api_serve.proofs.Waits.{last_none, last_served, last_short, served_as, short_as, length_none}
 use Rattle.api_serve.proofs.run.take_last.Goals as goal
 
@@ -16,4 +17,4 @@ returns-in-Ok-clause-taken g c =
 pub returns-in-Err-NoMemory-clause-stopped : goal.returns-in-Err-NoMemory-clause-stopped
 returns-in-Err-NoMemory-clause-stopped g c =
     let some : length c.args.run.now.lines ≡ 0 → ⊥ = λ (e : length c.args.run.now.lines ≡ 0). let t = c.if-is_empty.ensures in let same = ap length c.part-part.ensures in grind arith in
-    last_short _ _ c.args.run.now _ _ some (short_as _ _ _ c.part-part.result.now c.args.run.now.lines c.part-part.ensures (c.in-Err-NoMemory.ensures.short refl)) c.in-Err-NoMemory.ensures.kept
+    last_short _ _ c.args.run.now _ _ some (short_as _ _ _ c.part-part.result.now c.args.run.now.lines c.part-part.ensures (c.in-Err-NoMemory.ensures.short (ap (λ (s : LineStop). Err s) c.in-Err-NoMemory.field-0-is))) c.in-Err-NoMemory.ensures.kept

@@ -1,9 +1,19 @@
-use Rattle.std.proofs.Common.{◌≡◌, ◌≤◌, ◌+◌, length, take, ap, arith, Err}
+use Rattle.std.proofs.Common.{◌≡◌, ◌≤◌, ◌+◌, length, take, refl, ap, arith, Err}
 use Rattle.outside_io.specs.Told.{CountsGrow-then}
 use Rattle.outside_io.specs.declared.fault.IoFault.{IoFault}
 use Rattle.api_serve.proofs.Waits.{same_base}
-use Rattle.api_serve.proofs.Whole.{at_piece, at_read, at_same, at_more, count_fits, ends_piece, ends_finish, ends_reading, ends_full, piece_size, read_fault, grown, front_fits, finish_at, piece_at, end_at}
+use Rattle.api_serve.proofs.Whole.{at_start, at_piece, at_read, at_same, at_more, count_fits, ends_piece, ends_finish, ends_reading, ends_full, piece_size, read_fault, grown, front_fits, finish_at, piece_at, end_at}
 use Rattle.api_serve.proofs.serve.serve_pieces.Goals as goal
+
+pub pieces-init : goal.pieces-init
+pieces-init g c = record {
+  at = at_start _ _ (g.S.Source.reading c.args.source.now) (g.W.Sink.writing c.args.sink.now) c.args.run.now c.requires.begun;
+  reads_grow = omega arith;
+  writes_grow = (omega arith, omega arith);
+  base = (refl, refl, refl);
+  known = c.requires.known;
+  lawful = c.journal_len.ensures.lawful;
+}
 
 pub finish-requires-clause-room : goal.finish-requires-clause-room
 finish-requires-clause-room g c = omega (arith, count_fits _ _ _ _ _ _ _ c.pieces.run c.pieces.unread c.pieces.invariant.at)
