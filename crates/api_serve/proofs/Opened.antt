@@ -1,8 +1,10 @@
 -- A session that was opened, and the lines that it served.
-use Rattle.std.proofs.Common.{◌≡◌, ◌≤◌, ◌^◌, refl, ◌++◌, ◌∷◌, [], ℕ, ℤ, List, Option, sym, ◌∙◌, ap, subst, append_assoc}
+use Rattle.std.proofs.Common.{◌≡◌, ◌≤◌, ◌^◌, refl, map, ◌++◌, ◌∷◌, [], ℕ, ℤ, List, Option, sym, ◌∙◌, ap, subst, append_assoc}
 use Rattle.std.specs.Option.{ForSome}
 use Rattle.outside_io.specs.Told.{Reading, Writing}
-use Rattle.store_core.specs.State.{State}
+use Rattle.store_core.specs.State.{State, IsOld}
+use Rattle.store_core.specs.Journal.{IsJournal}
+use Rattle.store_core.specs.Store.{Stored, IsLawful}
 use Rattle.store_core.specs.Counts.{opened_in}
 use Rattle.store_core.specs.declared.entry.Entry.{Entry}
 use Rattle.store_core.specs.declared.entry.Entry.TheVariants.{Opened}
@@ -87,3 +89,27 @@ ends_opened keyspace start number before_journal opened_journal failed times lat
     ends_as (λ lines output. Serves (service_of keyspace start number) (serving_of opened_journal failed [] times) lines output later) (ServesLines keyspace start (serving_of before_journal failed [] times) later)
     (λ lines output s. opened_lines keyspace start number (serving_of before_journal failed [] times) (serving_of opened_journal failed [] times) later lines output number_is journal refl refl refl begun s)
     from to before after how h
+
+-- the store in which a session was just opened
+pub ends_in_store : {K : Type 0} (failed : K → ℕ) (keyspace : List ℕ) (old opened : Stored K) (number : ℕ) (times : Option (List ℤ)) (later : Serving) (from to : Reading) (before after : Writing) (how : RunHow) → number ≡ opened_in old.journal
+    → opened ≡ record old { journal = old.journal ++ Opened number ∷ [] } → ForSome old.start (λ b. b.sessions ≡ 0) → IsLawful opened
+    → ((base : State) (history : List Entry) (k : ℕ) → base.sessions ≡ 0 → k ≡ opened_in history → IsJournal base (history ++ Opened k ∷ []) → IsSession base (history ++ Opened k ∷ []) k [])
+    → EndsRun (λ lines output. Serves (service_of keyspace opened.start number) (serving_of opened.journal (failed opened.keeper) [] times) lines output later) from to before after how
+    → EndsRun (ServesLines keyspace old.start (serving_of old.journal (failed old.keeper) [] times) later) from to before after how
+ends_in_store {K = K} failed keyspace old opened number times later from to before after how number_is is none lawful opens h =
+    let legal : ForSome old.start (λ b. IsJournal b (old.journal ++ Opened number ∷ []) × IsOld b) = subst (λ (s : Stored K). IsLawful s) is lawful in
+    ends_opened keyspace old.start number old.journal (old.journal ++ Opened number ∷ []) (failed old.keeper) times later from to before after how number_is refl
+    (λ base told. opens base old.journal number (none base told) number_is (legal base told).0)
+    (subst (λ (s : Stored K). EndsRun (λ lines output. Serves (service_of keyspace s.start number) (serving_of s.journal (failed s.keeper) [] times) lines output later) from to before after how) is h)
+
+-- what was put into an empty list is all
+pub only_one : {A B : Type 0} (f : A → B) (before after : List A) (x : A) → before ≡ [] → after ≡ before ++ x ∷ [] → map f after ≡ f x ∷ []
+only_one f before after x none is = ap (map f) (is ∙ ap (λ xs. xs ++ x ∷ []) none)
+
+-- the count of faults of a keeper in whose store a session was opened and served lines
+pub store_grows : {K : Type 0} (failed : K → ℕ) (keyspace : List ℕ) (old opened : Stored K) (number : ℕ) (times : Option (List ℤ)) (later : Serving) (from to : Reading) (before after : Writing) (how : RunHow)
+    → opened ≡ record old { journal = old.journal ++ Opened number ∷ [] }
+    → EndsRun (λ lines output. Serves (service_of keyspace opened.start number) (serving_of opened.journal (failed opened.keeper) [] times) lines output later) from to before after how
+    → failed old.keeper ≤ later.failed
+store_grows {K = K} failed keyspace old opened number times later from to before after how is h =
+    subst (λ (s : Stored K). failed s.keeper ≤ later.failed) is (ends_grow keyspace opened.start number (serving_of opened.journal (failed opened.keeper) [] times) later from to before after how h)
