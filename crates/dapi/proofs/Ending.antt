@@ -26,31 +26,14 @@ use Rattle.dapi.specs.Top.{Runs, FailsOpening, IsOverfull}
 use Rattle.dapi.proofs.Choosing.{same_collections}
 use Rattle.dapi.proofs.Notes.{noted_by}
 
--- ---- each status
-
-pub known_status : (how : RunHow) → IsTrue (is_status (status_of how))
-known_status Done = refl
-known_status (ReadFault b a) = refl
-known_status (WriteFault b a nothing) = refl
-known_status TooLong = refl
-known_status (WrongLine line) = refl
-known_status NoMemory = refl
-
-pub never_one : (how : RunHow) → status_of how ≡ 1 → ⊥
-never_one Done e = Prim.cc e
-never_one (ReadFault b a) e = Prim.cc e
-never_one (WriteFault b a nothing) e = Prim.cc e
-never_one TooLong e = Prim.cc e
-never_one (WrongLine line) e = Prim.cc e
-never_one NoMemory e = Prim.cc e
-
-pub never_four : (how : RunHow) → status_of how ≡ 4 → ⊥
-never_four Done e = Prim.cc e
-never_four (ReadFault b a) e = Prim.cc e
-never_four (WriteFault b a nothing) e = Prim.cc e
-never_four TooLong e = Prim.cc e
-never_four (WrongLine line) e = Prim.cc e
-never_four NoMemory e = Prim.cc e
+-- the line that a run stopped at, or 0
+abbrev pub line_of : RunHow → ℕ
+line_of Done = 0
+line_of (ReadFault b a) = 0
+line_of (WriteFault b a nothing) = 0
+line_of TooLong = 0
+line_of (WrongLine line) = line
+line_of NoMemory = 0
 
 -- ---- a run that ended so, by its status
 
@@ -71,14 +54,6 @@ module _ (P : List (List ℕ) → List ℕ → Type 0) (from to : Reading) (befo
   when_unread (WrongLine line) e h = absurd (Prim.cc e)
   when_unread NoMemory e h = absurd (Prim.cc e)
 
-  pub why_unread : (how : RunHow) → status_of how ≡ 2 → EndsRun P from to before after how → Rose from.failed to.failed
-  why_unread (ReadFault b a) e h = subst (λ (n : ℕ). Rose from.failed n) h.0.2 (Rose-earlier from.failed b a h.0.0 h.0.1)
-  why_unread Done e h = absurd (Prim.cc e)
-  why_unread (WriteFault b a nothing) e h = absurd (Prim.cc e)
-  why_unread TooLong e h = absurd (Prim.cc e)
-  why_unread (WrongLine line) e h = absurd (Prim.cc e)
-  why_unread NoMemory e h = absurd (Prim.cc e)
-
   pub when_unwritten : (how : RunHow) → status_of how ≡ 3 → EndsRun P from to before after how → ServesCut P from to before after
   when_unwritten (WriteFault b a nothing) e h = h.1
   when_unwritten Done e h = absurd (Prim.cc e)
@@ -86,15 +61,6 @@ module _ (P : List (List ℕ) → List ℕ → Type 0) (from to : Reading) (befo
   when_unwritten TooLong e h = absurd (Prim.cc e)
   when_unwritten (WrongLine line) e h = absurd (Prim.cc e)
   when_unwritten NoMemory e h = absurd (Prim.cc e)
-
-  pub why_unwritten : (how : RunHow) → status_of how ≡ 3 → EndsRun P from to before after how → IsHindered before after
-  why_unwritten (WriteFault b a false) e h = inl (subst (λ (n : ℕ). Rose before.failed n) h.0.2 (Rose-earlier before.failed b a h.0.0 h.0.1))
-  why_unwritten (WriteFault b a true) e h = inr h.0.1
-  why_unwritten Done e h = absurd (Prim.cc e)
-  why_unwritten (ReadFault b a) e h = absurd (Prim.cc e)
-  why_unwritten TooLong e h = absurd (Prim.cc e)
-  why_unwritten (WrongLine line) e h = absurd (Prim.cc e)
-  why_unwritten NoMemory e h = absurd (Prim.cc e)
 
   pub when_long : (how : RunHow) → status_of how ≡ 5 → EndsRun P from to before after how → ServesWholeLines P from to before after (2 ^ 40)
   when_long TooLong e h = h
@@ -111,14 +77,6 @@ module _ (P : List (List ℕ) → List ℕ → Type 0) (from to : Reading) (befo
   when_short (WriteFault b a nothing) e h = absurd (Prim.cc e)
   when_short TooLong e h = absurd (Prim.cc e)
   when_short (WrongLine line) e h = absurd (Prim.cc e)
-
-  line_of : RunHow → ℕ
-  line_of Done = 0
-  line_of (ReadFault b a) = 0
-  line_of (WriteFault b a nothing) = 0
-  line_of TooLong = 0
-  line_of (WrongLine line) = line
-  line_of NoMemory = 0
 
   pub when_wrong : (how : RunHow) → status_of how ≡ 6 → EndsRun P from to before after how → ServesBefore P from to before after (line_of how)
   when_wrong (WrongLine line) e h = h
@@ -184,14 +142,8 @@ module _ {K : Type 0} (tables : K → Option Tables) (failed : K → ℕ) (words
     pub ran_unread : status ≡ 2 → Runs tables failed words given kept times (λ Served. (count : ℕ) × (count < 2 ^ 40) × ServesWholeLines Served from to before after count)
     ran_unread e = runs_so from to before after how (λ Served. (count : ℕ) × (count < 2 ^ 40) × ServesWholeLines Served from to before after count) (λ P. when_unread P from to before after how (status_is 2 e)) (begun 2 (λ n. Prim.cc n) e)
 
-    pub cause_unread : status ≡ 2 → Rose from.failed to.failed
-    cause_unread e = why_unread _ from to before after how (status_is 2 e) (begun 2 (λ n. Prim.cc n) e).ended
-
     pub ran_unwritten : status ≡ 3 → Runs tables failed words given kept times (λ Served. ServesCut Served from to before after)
     ran_unwritten e = runs_so from to before after how (λ Served. ServesCut Served from to before after) (λ P. when_unwritten P from to before after how (status_is 3 e)) (begun 3 (λ n. Prim.cc n) e)
-
-    pub cause_unwritten : status ≡ 3 → IsHindered before after
-    cause_unwritten e = why_unwritten _ from to before after how (status_is 3 e) (begun 3 (λ n. Prim.cc n) e).ended
 
     pub ran_long : status ≡ 5 → Runs tables failed words given kept times (λ Served. ServesWholeLines Served from to before after (2 ^ 40))
     ran_long e = runs_so from to before after how (λ Served. ServesWholeLines Served from to before after (2 ^ 40)) (λ P. when_long P from to before after how (status_is 5 e)) (begun 5 (λ n. Prim.cc n) e)
@@ -209,28 +161,11 @@ module _ {K : Type 0} (tables : K → Option Tables) (failed : K → ℕ) (words
         short : EndsStore tables failed keyspace store times kept from to before after how ⊎ ((how ≡ NoMemory) × (source' ≡ source) × (sink' ≡ sink))
             → ((source' ≡ source) × (sink' ≡ sink)) ⊎ Runs tables failed words given kept times (λ Served. ServesFirst Served from to before after)
         short (inl e') = inr (runs_so from to before after how (λ Served. ServesFirst Served from to before after) (λ P. when_short P from to before after how (status_is 9 e)) e')
-        short (inr none) = inl none.1
-
-    pub ran_noted : (Noted : List ℕ → Type 0) → Noted (note_of how) → (status ≡ 6 → ⊥) → Noted (note_at status)
-    ran_noted Noted noted other = subst Noted (noted_by how (λ six. other (is ∙ six)) ∙ sym (ap note_at is)) noted
-
-    pub ran_known : IsTrue (is_status status)
-    ran_known = ap is_status is ∙ known_status how
-
-    pub ran_not_one : status ≡ 1 → ⊥
-    ran_not_one e = never_one how (status_is 1 e)
-
-    pub ran_not_four : status ≡ 4 → ⊥
-    ran_not_four e = never_four how (status_is 4 e)
+        short (inr none) = inl (none.1, none.2)
 
 -- ---- a store that wasn't opened
 
 module _ {K : Type 0} (tables : K → Option Tables) (failed : K → ℕ) (words : List (List ℕ)) (given kept : K) (keyspace : List ℕ) (collections : List (List ℕ)) (status : ℕ) (asked : RunsOn words keyspace collections) where
-  pub refused_status : (fault : OpenFault K) → status ≡ open_status fault → (status ≡ 4) ⊎ (status ≡ 9)
-  refused_status (opens.KeeperFault keeper b a) e = inl e
-  refused_status (opens.TooMany keeper) e = inl e
-  refused_status (opens.NoMemory keeper) e = inr e
-
   pub refused_so : (Noted : List ℕ → Type 0) (fault : OpenFault K) → status ≡ open_status fault → kept ≡ keeper_in fault → Refuses tables failed collections given fault → Noted (open_note fault) → status ≡ 4
       → (Rose (failed given) (failed kept) × FailsOpening tables failed words given kept × Noted (codes "keeper fault\n")) ⊎ (IsOverfull tables failed words given kept × Noted (codes "too many collections\n"))
   refused_so Noted (opens.KeeperFault keeper b a) is back refuses noted four =
@@ -243,53 +178,28 @@ module _ {K : Type 0} (tables : K → Option Tables) (failed : K → ℕ) (words
       inr (record { keyspace = keyspace; collections = collections; asked = asked; over = λ t told. let over = refuses t told in (over.0, ap tables back ∙ over.1) }, noted)
   refused_so Noted (opens.NoMemory keeper) is back refuses noted four = absurd (Prim.cc (sym is ∙ four))
 
-  pub refused_noted : (Noted : List ℕ → Type 0) (fault : OpenFault K) → status ≡ open_status fault → Noted (open_note fault) → (status ≡ 4 → ⊥) → Noted (note_at status)
-  refused_noted Noted (opens.KeeperFault keeper b a) is noted other = absurd (other is)
-  refused_noted Noted (opens.TooMany keeper) is noted other = absurd (other is)
-  refused_noted Noted (opens.NoMemory keeper) is noted other = subst Noted (sym (ap note_at is)) noted
+pub refused_noted : {K : Type 0} (status : ℕ) (Noted : List ℕ → Type 0) (fault : OpenFault K) → status ≡ open_status fault → Noted (open_note fault) → (status ≡ 4 → ⊥) → Noted (note_at status)
+refused_noted status Noted (opens.KeeperFault keeper b a) is noted other = absurd (other is)
+refused_noted status Noted (opens.TooMany keeper) is noted other = absurd (other is)
+refused_noted status Noted (opens.NoMemory keeper) is noted other = subst Noted (sym (ap note_at is)) noted
 
-  pub refused_known : (fault : OpenFault K) → status ≡ open_status fault → IsTrue (is_status status)
-  refused_known (opens.KeeperFault keeper b a) e = ap is_status e
-  refused_known (opens.TooMany keeper) e = ap is_status e
-  refused_known (opens.NoMemory keeper) e = ap is_status e
+pub note_at_fault : {K : Type 0} (Noted : List ℕ → Type 0) (fault given : OpenFault K) → given ≡ fault → Noted (open_note fault) → Noted (open_note given)
+note_at_fault Noted fault given is noted = subst Noted (sym (ap open_note is)) noted
 
-  pub refused_not : (n : ℕ) → (4 ≡ n → ⊥) → (9 ≡ n → ⊥) → (fault : OpenFault K) → status ≡ open_status fault → status ≡ n → ⊥
-  refused_not n four nine (opens.KeeperFault keeper b a) is e = four (sym is ∙ e)
-  refused_not n four nine (opens.TooMany keeper) is e = four (sym is ∙ e)
-  refused_not n four nine (opens.NoMemory keeper) is e = nine (sym is ∙ e)
+pub asked_as : (words : List (List ℕ)) (keyspace keyspace' : List ℕ) (collections collections' : List (List ℕ)) → keyspace' ≡ keyspace → collections' ≡ collections → RunsOn words keyspace collections → RunsOn words keyspace' collections'
+asked_as words keyspace keyspace' collections collections' same are run = record { choices = run.choices; words_are = run.words_are; allowed = run.allowed; keyspace_is = same ∙ run.keyspace_is; collections_are = are ∙ run.collections_are }
 
 -- ---- words that can't be used
 
 module _ (words : List (List ℕ)) (status : ℕ) where
-  pub unused_status : (fault : WordFault) → status ≡ word_status fault → (status ≡ 1) ⊎ (status ≡ 9)
-  unused_status faults.Usage e = inl e
-  unused_status faults.NoMemory e = inr e
-
   pub unused_usage : (fault : WordFault) → status ≡ word_status fault → IsWordFault words fault → status ≡ 1 → IsUsage words
   unused_usage faults.Usage is usage one = usage
   unused_usage faults.NoMemory is usage one = absurd (Prim.cc (sym is ∙ one))
-
-  pub unused_noted : (Noted : List ℕ → Type 0) (fault : WordFault) → status ≡ word_status fault → Noted (word_note fault) → Noted (note_at status)
-  unused_noted Noted faults.Usage is noted = subst Noted (sym (ap note_at is)) noted
-  unused_noted Noted faults.NoMemory is noted = subst Noted (sym (ap note_at is)) noted
-
-  pub unused_known : (fault : WordFault) → status ≡ word_status fault → IsTrue (is_status status)
-  unused_known faults.Usage e = ap is_status e
-  unused_known faults.NoMemory e = ap is_status e
-
-  pub unused_not : (n : ℕ) → (1 ≡ n → ⊥) → (9 ≡ n → ⊥) → (fault : WordFault) → status ≡ word_status fault → status ≡ n → ⊥
-  unused_not n one nine faults.Usage is e = one (sym is ∙ e)
-  unused_not n one nine faults.NoMemory is e = nine (sym is ∙ e)
 
   -- where the words run on a keyspace, memory was wanting
   pub unused_run : (fault : WordFault) → status ≡ word_status fault → IsWordFault words fault → (keyspace : List ℕ) (collections : List (List ℕ)) → RunsOn words keyspace collections → status ≡ 9
   unused_run faults.Usage is usage keyspace collections run = absurd (usage keyspace collections run)
   unused_run faults.NoMemory is usage keyspace collections run = is
-
--- ---- reads
-
-pub none_read : (reading : Reading) → (count : ℕ) × (count ≤ 2 ^ 40) × HasRead reading reading count
-none_read reading = (0, omega arith, ([], refl, sym (then_left-nil reading.left)))
 
 -- no store is opened where too many would live
 pub opened_few : (words : List (List ℕ)) (keyspace₁ keyspace₂ : List ℕ) (cs ds : List (List ℕ)) (tables : Option Tables) (status : ℕ) → RunsOn words keyspace₁ cs → RunsOn words keyspace₂ ds → ForSome tables (λ t. would_live cs t ≤ 100)

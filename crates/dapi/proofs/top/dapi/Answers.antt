@@ -1,10 +1,62 @@
-use Rattle.std.proofs.Common.{ℕ, List, sym, ap, ◌∙◌, subst}
-use Rattle.dapi.specs.Note.{note_at, IsNoted}
-use Rattle.dapi.proofs.Notes.{noted_by}
+use Rattle.std.proofs.Common.{inr, map, string_bytes, refl}
+use Rattle.dapi.specs.Note.{IsNoted}
+use Rattle.dapi.proofs.Ending.{asked_as, ran_whole, ran_unread, ran_unwritten, ran_long, ran_wrong, ran_short, refused_so, refused_noted, unused_usage, unused_run, opened_few}
 use Rattle.dapi.proofs.top.dapi.Goals as goal
 
+pub returns-in-Err-clause-usage : goal.returns-in-Err-clause-usage
+returns-in-Err-clause-usage g c = λ one. unused_usage (map string_bytes c.args.words.now) _ c.in-Err.fault c.refuse_words.ensures.status c.in-Err.ensures.err one
+
+pub returns-in-Err-clause-overfull : goal.returns-in-Err-clause-overfull
+returns-in-Err-clause-overfull g c = λ keyspace collections run t told over. inr (unused_run (map string_bytes c.args.words.now) _ c.in-Err.fault c.refuse_words.ensures.status c.in-Err.ensures.err keyspace collections run)
+
+pub returns-in-Ok-open-clause-answered : goal.returns-in-Ok-open-clause-answered
+returns-in-Ok-open-clause-answered g c = let ran = c.run_store.ensures.ran in let opened = c.in-Ok-open.ensures in
+    λ e. ran_whole g.K.Keeper.tables g.K.Keeper.failed (map string_bytes c.args.words.now) c.args.keeper c.run_store.result.1 c.text.result.now c.as_slice.result.now c.in-Ok-open.store (g.C.Clock.times c.args.clock.now)
+    (asked_as _ c.in-Ok.job.keyspace c.text.result.now c.in-Ok.job.collections.items c.as_slice.result.now c.text.ensures.value c.as_slice.ensures.value c.in-Ok.ensures.ok) opened.begins opened.tables opened.start opened.faults
+    c.args.source.now c.run_store.new.source c.args.sink.now c.run_store.new.sink _ _ _ _ c.run_store.result.0 ran.0 ran.1 ran.3 e
+
+pub returns-in-Ok-open-clause-read_so_far : goal.returns-in-Ok-open-clause-read_so_far
+returns-in-Ok-open-clause-read_so_far g c = let ran = c.run_store.ensures.ran in let opened = c.in-Ok-open.ensures in
+    λ e. ran_unread g.K.Keeper.tables g.K.Keeper.failed (map string_bytes c.args.words.now) c.args.keeper c.run_store.result.1 c.text.result.now c.as_slice.result.now c.in-Ok-open.store (g.C.Clock.times c.args.clock.now)
+    (asked_as _ c.in-Ok.job.keyspace c.text.result.now c.in-Ok.job.collections.items c.as_slice.result.now c.text.ensures.value c.as_slice.ensures.value c.in-Ok.ensures.ok) opened.begins opened.tables opened.start opened.faults
+    c.args.source.now c.run_store.new.source c.args.sink.now c.run_store.new.sink _ _ _ _ c.run_store.result.0 ran.0 ran.1 ran.3 e
+
+pub returns-in-Ok-open-clause-written_so_far : goal.returns-in-Ok-open-clause-written_so_far
+returns-in-Ok-open-clause-written_so_far g c = let ran = c.run_store.ensures.ran in let opened = c.in-Ok-open.ensures in
+    λ e. ran_unwritten g.K.Keeper.tables g.K.Keeper.failed (map string_bytes c.args.words.now) c.args.keeper c.run_store.result.1 c.text.result.now c.as_slice.result.now c.in-Ok-open.store (g.C.Clock.times c.args.clock.now)
+    (asked_as _ c.in-Ok.job.keyspace c.text.result.now c.in-Ok.job.collections.items c.as_slice.result.now c.text.ensures.value c.as_slice.ensures.value c.in-Ok.ensures.ok) opened.begins opened.tables opened.start opened.faults
+    c.args.source.now c.run_store.new.source c.args.sink.now c.run_store.new.sink _ _ _ _ c.run_store.result.0 ran.0 ran.1 ran.3 e
+
+pub returns-in-Ok-open-clause-too_long : goal.returns-in-Ok-open-clause-too_long
+returns-in-Ok-open-clause-too_long g c = let ran = c.run_store.ensures.ran in let opened = c.in-Ok-open.ensures in
+    λ e. ran_long g.K.Keeper.tables g.K.Keeper.failed (map string_bytes c.args.words.now) c.args.keeper c.run_store.result.1 c.text.result.now c.as_slice.result.now c.in-Ok-open.store (g.C.Clock.times c.args.clock.now)
+    (asked_as _ c.in-Ok.job.keyspace c.text.result.now c.in-Ok.job.collections.items c.as_slice.result.now c.text.ensures.value c.as_slice.ensures.value c.in-Ok.ensures.ok) opened.begins opened.tables opened.start opened.faults
+    c.args.source.now c.run_store.new.source c.args.sink.now c.run_store.new.sink _ _ _ _ c.run_store.result.0 ran.0 ran.1 ran.3 e
+
+pub returns-in-Ok-open-clause-wrong_line : goal.returns-in-Ok-open-clause-wrong_line
+returns-in-Ok-open-clause-wrong_line g c = let ran = c.run_store.ensures.ran in let opened = c.in-Ok-open.ensures in
+    λ e. ran_wrong g.K.Keeper.tables g.K.Keeper.failed (map string_bytes c.args.words.now) c.args.keeper c.run_store.result.1 c.text.result.now c.as_slice.result.now c.in-Ok-open.store (g.C.Clock.times c.args.clock.now)
+    (asked_as _ c.in-Ok.job.keyspace c.text.result.now c.in-Ok.job.collections.items c.as_slice.result.now c.text.ensures.value c.as_slice.ensures.value c.in-Ok.ensures.ok) opened.begins opened.tables opened.start opened.faults
+    c.args.source.now c.run_store.new.source c.args.sink.now c.run_store.new.sink _ _ _ _ c.run_store.result.0 ran.0 ran.1 ran.3 (IsNoted (g.E.Sink.writing c.args.notes.now) (g.E.Sink.writing c.run_store.new.notes)) ran.2 e
+
+pub returns-in-Ok-open-clause-no_memory : goal.returns-in-Ok-open-clause-no_memory
+returns-in-Ok-open-clause-no_memory g c = let ran = c.run_store.ensures.ran in let opened = c.in-Ok-open.ensures in
+    λ e. ran_short g.K.Keeper.tables g.K.Keeper.failed (map string_bytes c.args.words.now) c.args.keeper c.run_store.result.1 c.text.result.now c.as_slice.result.now c.in-Ok-open.store (g.C.Clock.times c.args.clock.now)
+    (asked_as _ c.in-Ok.job.keyspace c.text.result.now c.in-Ok.job.collections.items c.as_slice.result.now c.text.ensures.value c.as_slice.ensures.value c.in-Ok.ensures.ok) opened.begins opened.tables opened.start opened.faults
+    c.args.source.now c.run_store.new.source c.args.sink.now c.run_store.new.sink _ _ _ _ c.run_store.result.0 ran.0 ran.1 ran.3 e
+
+pub returns-in-Ok-open-clause-overfull : goal.returns-in-Ok-open-clause-overfull
+returns-in-Ok-open-clause-overfull g c = λ keyspace collections run.
+    opened_few (map string_bytes c.args.words.now) c.text.result.now keyspace c.as_slice.result.now collections (g.K.Keeper.tables c.args.keeper) c.run_store.result.0
+    (asked_as _ c.in-Ok.job.keyspace c.text.result.now c.in-Ok.job.collections.items c.as_slice.result.now c.text.ensures.value c.as_slice.ensures.value c.in-Ok.ensures.ok) run
+    (λ t told. (c.in-Ok-open.ensures.first t told).1)
+
+pub returns-clause-unopened : goal.returns-clause-unopened
+returns-clause-unopened g c = λ four.
+    refused_so g.K.Keeper.tables g.K.Keeper.failed (map string_bytes c.args.words.now) c.args.keeper c.refuse_store.result.1 c.in-Ok.job.keyspace c.as_slice.result.now c.refuse_store.result.0
+    (asked_as _ c.in-Ok.job.keyspace c.in-Ok.job.keyspace c.in-Ok.job.collections.items c.as_slice.result.now refl c.as_slice.ensures.value c.in-Ok.ensures.ok)
+    (IsNoted (g.E.Sink.writing c.args.notes.now) (g.E.Sink.writing c.refuse_store.new.notes)) c.in-Err-open.fault c.refuse_store.ensures.status c.refuse_store.ensures.kept c.in-Err-open.ensures.refused c.refuse_store.ensures.noted four
+
 pub returns-clause-noted : goal.returns-clause-noted
-returns-clause-noted g c = λ other.
-    subst (λ (note : List ℕ). IsNoted (g.E.Sink.writing c.args.notes.now) (g.E.Sink.writing c.write_note.new.notes) note)
-    (c.as_str.ensures.value ∙ c.note_of.ensures ∙ noted_by c.run_lines-how.result (λ six. other (c.status_of.ensures ∙ six)) ∙ sym (ap note_at c.status_of.ensures))
-    c.write_note.ensures
+returns-clause-noted g c = λ other six.
+    refused_noted c.refuse_store.result.0 (IsNoted (g.E.Sink.writing c.args.notes.now) (g.E.Sink.writing c.refuse_store.new.notes)) c.in-Err-open.fault c.refuse_store.ensures.status c.refuse_store.ensures.noted other
