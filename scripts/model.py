@@ -474,10 +474,9 @@ def id_key(value):
 class Service:
     """The living collections of a keyspace, and the last number given."""
 
-    def __init__(self, collections, keyspace="ks", commands=("insertOne",)):
+    def __init__(self, collections, keyspace="ks"):
         self.rows = {name: {} for name in collections}
         self.keyspace = keyspace
-        self.commands = commands
         self.last = 0
 
     def reply(self, path, body):
@@ -490,8 +489,6 @@ class Service:
         value = read(body)
         name, wanted = self.command(path, value)
         keyspace, collection = path[0], path[1]
-        if len(self.commands) == 1:
-            return self.insert_alone(keyspace, collection, wanted)
         if keyspace != self.keyspace:
             raise Fault("KEYSPACE_NOT_EXIST", f"Keyspace {keyspace} does not exist")
         if not COLLECTION.match(collection):
@@ -515,18 +512,9 @@ class Service:
 
     def command(self, path, value):
         names = value.names() if isinstance(value, Members) else []
-        if len(names) != 1 or names[0] not in self.commands or len(path) != 2:
+        if len(names) != 1 or names[0] not in ROWS or len(path) != 2:
             raise Fault("NO_COMMAND_MATCHED", "No command matched")
         return names[0], value.pairs[0][1]
-
-    def insert_alone(self, keyspace, collection, wanted):
-        """While insertOne is all there is, whatever isn't just this command matches none."""
-        good = (keyspace == self.keyspace and collection in self.rows and isinstance(wanted, Members)
-                and wanted.names() == ["document"] and isinstance(wanted.get("document"), Members))
-        if not good:
-            raise Fault("NO_COMMAND_MATCHED", "No command matched")
-        judge_document(wanted.get("document"))
-        return self.insert(self.rows[collection], wanted.get("document"))
 
     def judge_members(self, name, wanted):
         def refuse(field):

@@ -350,6 +350,67 @@ fn a_hundred_collections_live(rt: HostRuntime) -> Result<(), Fail> {
     calls(&rt, call, 1, "", USAGE)
 }
 
+// Insertions of documents whose ids and members `k` are the numbers from one up to another.
+fn insertions<R: AllocGlobal>(rt: &R, from: u32, to: u32) -> Result<(String, String), AllocError> {
+    let mut input = String::new(rt.alloc());
+    let mut output = String::new(rt.alloc());
+    for i in from..to {
+        write!(
+            input,
+            "/v1/ks/c {{\"insertOne\":{{\"document\":{{\"_id\":{i},\"k\":{i}}}}}}}\n"
+        )?;
+        write!(output, "{{\"status\":{{\"insertedIds\":[{i}]}}}}\n")?;
+    }
+    Ok((input, output))
+}
+
+const COUNTS: &str = r#"/v1/ks/c {"countDocuments":{}}
+/v1/ks/c {"countDocuments":{"filter":{"k":{"$gte":64}}}}
+/v1/ks/c {"countDocuments":{"filter":{"k":{"$lt":65}}}}
+/v1/ks/c {"countDocuments":{"filter":{"k":{"$in":[0,63,64,65,127,128,999]}}}}
+/v1/ks/c {"findOne":{"filter":{"k":{"$gt":63}}}}
+/v1/ks/c {"findOne":{"filter":{"k":999}}}
+/v1/ks/c {"findOne":{"filter":{"k":{"$gt":999}}}}
+"#;
+
+const COUNTED: &str = r#"{"status":{"count":1000}}
+{"status":{"count":936}}
+{"status":{"count":65}}
+{"status":{"count":7}}
+{"data":{"document":{"_id":64,"k":64}}}
+{"data":{"document":{"_id":999,"k":999}}}
+{"data":{"document":null}}
+"#;
+
+const MORE: &str = r#"/v1/ks/c {"countDocuments":{}}
+/v1/ks/c {"countDocuments":{"filter":{"k":{"$gt":0}}}}
+/v1/ks/c {"countDocuments":{"filter":{"k":{"$ne":-1}}}}
+"#;
+
+const COUNTED_MORE: &str = r#"{"status":{"count":1000,"moreData":true}}
+{"status":{"count":1000}}
+{"status":{"count":1000,"moreData":true}}
+"#;
+
+#[test]
+fn counts_end_past_a_thousand(rt: HostRuntime) -> Result<(), Fail> {
+    let (mut input, mut output) = insertions(&rt, 0, 1000)?;
+    let (last_input, last_output) = insertions(&rt, 1000, 1001)?;
+    for lines in [COUNTS, last_input.as_str(), MORE] {
+        input.push_str(lines)?;
+    }
+    for replies in [COUNTED, last_output.as_str(), COUNTED_MORE] {
+        output.push_str(replies)?;
+    }
+    let call = Call {
+        input: input.as_str(),
+        piece: 4096,
+        room: 100_000,
+        ..ON_C
+    };
+    calls(&rt, call, 0, output.as_str(), "")
+}
+
 #[test]
 fn requests_are_answered_in_any_pieces(rt: HostRuntime) -> Result<(), Fail> {
     for piece in [1, 7, 64, 1000, 100_000] {

@@ -72,7 +72,9 @@ fn run_store<S: Source, W: Sink, E: Sink, K: Keeper, C: Clock>(
     ensures faults { K.failed store.keeper ≤ K.failed result.1 }
 {
     let mut store = store;
-    let RunEnd { how, traces: _ } = run_lines(alloc, keyspace, source, sink, &mut store, clock, seed);
+    let RunEnd { how, traces: _ } = run_lines(
+        alloc, keyspace, source, sink, &mut store, clock, seed,
+    );
     write_note(notes, note_of(how).as_str());
     (status_of(how), store.into_keeper())
 }
