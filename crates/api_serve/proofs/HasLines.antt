@@ -5,7 +5,7 @@ use Rattle.std.proofs.lemmas.Bool.Decides.{nat_tests}
 use Rattle.std.specs.List.{list_all}
 use Rattle.api_serve.specs.Separated.{is_free_of}
 use Rattle.api_serve.specs.Lines.{ended_lines, Splits, HasLines, BeginsWith, last_line}
-use Rattle.api_serve.specs.Request.{IsRightLine, IsHopeless, AreRightLines, is_skipped}
+use Rattle.api_serve.specs.Request.{IsRightLine, AreRightLines, is_skipped}
 use Rattle.api_serve.specs.Run.{IsWrongBehind}
 use Rattle.api_serve.specs.Piece.{BeginsWrong}
 use Rattle.api_serve.proofs.Cuts.{joined_true, free_joined}

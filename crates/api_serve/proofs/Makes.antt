@@ -1,8 +1,7 @@
 -- What a session makes of a store, one exchange behind another.
-use Rattle.std.proofs.Common.{◌≡◌, ◌≤◌, ◌<◌, ◌+◌, ◌++◌, ◌∷◌, [], ℕ, ℤ, List, Option, Some, None, refl, sym, ◌∙◌, ap, subst, append_assoc, arith}
+use Rattle.std.proofs.Common.{◌≡◌, ◌≤◌, ◌<◌, ◌++◌, ◌∷◌, [], ℕ, ℤ, List, Option, Some, None, refl, sym, ◌∙◌, ap, subst, append_assoc, arith}
 use Rattle.std.proofs.lemmas.List.{append-nil}
 use Rattle.std.specs.Option.{option_map, ForSome}
-use Rattle.std.specs.List.{flat_map}
 use Rattle.reply_env.specs.Reply.{reply_text}
 use Rattle.reply_env.specs.declared.request.Request.{Request}
 use Rattle.cmd_tasks.specs.Session.{Exchange, IsSession, AreCounted, Asking, asks_for}

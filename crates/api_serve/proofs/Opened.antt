@@ -12,7 +12,7 @@ use Rattle.cmd_tasks.specs.Session.{IsSession, AreCounted}
 use Rattle.cmd_tasks.specs.declared.trace.Trace.{Trace}
 use Rattle.api_serve.specs.Session.{Service, Serving, AreTraces, AreMoments}
 use Rattle.api_serve.specs.Shown.{service_of, serving_of}
-use Rattle.api_serve.specs.Run.{Serves, ServesLines, ServesInput, ServesWholeLines, ServesBefore, ServesFirst, ServesCut}
+use Rattle.api_serve.specs.Run.{Serves, ServesLines, ServesWholeLines, ServesFirst}
 use Rattle.api_serve.specs.Ends.{EndsRun}
 use Rattle.api_serve.specs.declared.run.RunHow.{RunHow}
 use Rattle.api_serve.specs.declared.run.RunHow.TheVariants.{Done, ReadFault, WriteFault, TooLong, WrongLine, NoMemory}

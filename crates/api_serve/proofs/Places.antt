@@ -4,7 +4,6 @@ use Rattle.std.proofs.lemmas.Bool.Decides.{nat_tests}
 use Rattle.std.proofs.lemmas.Str.{IsUtf8-from_ascii}
 use Rattle.std.specs.Str.{IsUtf8, IsAscii}
 use Rattle.std.proofs.lemmas.List.{append-nil}
-use Rattle.std.proofs.lemmas.List.Folds.{list_all-append}
 use Rattle.std.specs.List.{list_all}
 use Rattle.api_serve.specs.Separated.{is_free_of}
 use Rattle.api_serve.specs.Request.{Parts, Spells, IsHopeless, is_skipped, is_part_byte, is_part, is_collection_part, collection_path}

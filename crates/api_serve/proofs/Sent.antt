@@ -1,10 +1,10 @@
 -- Lines that were served, and their replies written.
-use Rattle.std.proofs.Common.{◌≡◌, ◌<◌, ◌++◌, [], ℕ, List, Result, Ok, Err, length, take, refl, sym, ◌∙◌, ap, subst, arith}
+use Rattle.std.proofs.Common.{◌≡◌, ◌<◌, ◌++◌, [], ℕ, List, Result, Ok, Err, length, take, sym, ◌∙◌, ap, subst, arith}
 use Rattle.std.proofs.lemmas.List.{take-take, length-take}
 use Rattle.std.specs.Prelude.{OnOk, IfErr}
 use Rattle.outside_io.specs.Told.{Writing, Takes, taken_then}
 use Rattle.api_serve.specs.Session.{Service, Serving}
-use Rattle.api_serve.specs.Lines.{Splits, BeginsWith, ended_lines, last_line}
+use Rattle.api_serve.specs.Lines.{Splits}
 use Rattle.api_serve.specs.Piece.{TakesLines, TakesFirst, FindsWrong, StopsAt, TakesLast}
 use Rattle.api_serve.specs.Sent.{ServesPiece, AnswersBefore, AnswersFirst, AnswersCut, EndsPiece, AnswersLast, AnswersLastCut}
 use Rattle.api_serve.specs.Ends.{IsWriteEnd}

@@ -14,7 +14,7 @@ use Rattle.reply_env.specs.Reply.{reply_text}
 use Rattle.reply_env.specs.declared.reply.Reply.{Reply}
 use Rattle.reply_env.specs.declared.request.Request.{Request}
 use Rattle.api_serve.proofs.Makes.{Makes-none, Makes-append, AreAsked-append, lines-append}
-use Rattle.api_serve.proofs.Cuts.{joined_true, free_joined}
+use Rattle.api_serve.proofs.Cuts.{joined_true}
 
 -- lines ask for requests, and further lines for further ones
 asked_append : (lines others : List (List ℕ)) (rs qs : List Request) → AskFor lines rs → AskFor others qs → AskFor (lines ++ others) (rs ++ qs)

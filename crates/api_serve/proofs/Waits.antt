@@ -5,7 +5,7 @@ use lib.Seq.{take-append_seam}
 use Rattle.std.specs.List.{list_all}
 use Rattle.api_serve.specs.Session.{Service, Serving}
 use Rattle.api_serve.specs.Separated.{is_free_of}
-use Rattle.api_serve.specs.Lines.{ended_lines, Splits, BeginsWith, IsLineLen, last_line}
+use Rattle.api_serve.specs.Lines.{ended_lines, IsLineLen, last_line}
 use Rattle.api_serve.specs.Request.{IsRightLine, IsHopeless}
 use Rattle.api_serve.specs.Run.{Serves}
 use Rattle.api_serve.specs.One.{CutShort}

@@ -1,13 +1,13 @@
 -- A whole run, piece by piece.
 use Rattle.std.proofs.Common.{◌≡◌, ◌≤◌, ◌<◌, ◌+◌, ◌-◌, ◌^◌, ◌++◌, ◌∷◌, [], ℕ, List, Bool, true, false, length, Option, Some, None, refl, sym, ◌∙◌, ap, subst, append_assoc, arith, length-append, take, inl, inr, ⊎_elim}
-use Rattle.std.proofs.lemmas.List.{length-take, append-nil}
+use Rattle.std.proofs.lemmas.List.{length-take}
 use Rattle.std.proofs.Math.Seq.{take-append-add}
 use Rattle.std.specs.Option.{ForSome}
 use Rattle.outside_io.specs.Told.{Reading, Writing, Takes, Takes-append, CountsGrow, then_left, taken_then, then_left-append, taken_then-nil, then_left-nil, then_left-all}
 use Rattle.outside_io.specs.Causes.{Rose, Rose-earlier}
 use Rattle.api_serve.specs.Session.{Service, Serving}
 use Rattle.api_serve.specs.Separated.{is_free_of}
-use Rattle.api_serve.specs.Lines.{ended_lines, Splits, HasLines, BeginsWith, last_line}
+use Rattle.api_serve.specs.Lines.{ended_lines, Splits, HasLines, last_line}
 use Rattle.api_serve.specs.Request.{is_skipped}
 use Rattle.api_serve.specs.Run.{Serves, Reads, HasRead, ServesWholeLines, ServesBefore, ServesFirst}
 use Rattle.api_serve.specs.Ends.{EndsRun, IsReadFault, IsWriteFault}

@@ -1,5 +1,5 @@
 -- What a run does with the bytes that wait. Only the crate's private clauses cite it.
-use Rattle.std.specs.Prelude.{◌≡◌, ℕ, ◌+◌, List, [], ◌∷◌, ◌++◌, length, take, IsTrue, ◌⊎◌}
+use Rattle.std.specs.Prelude.{◌≡◌, ℕ, ◌+◌, List, ◌∷◌, ◌++◌, length, take, IsTrue, ◌⊎◌}
 use Rattle.std.specs.List.{list_all}
 use Rattle.api_serve.specs.Separated.{is_free_of}
 use Rattle.api_serve.specs.Lines.{Splits, BeginsWith, ended_lines, last_line}

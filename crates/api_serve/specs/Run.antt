@@ -1,5 +1,5 @@
 -- Lines served one behind the other, and what a run makes of its store.
-use Rattle.std.specs.Prelude.{◌≡◌, ℕ, ◌+◌, ◌^◌, ◌<◌, ◌≤◌, List, [], ◌∷◌, ◌++◌, length, take, Option, ◌⊎◌}
+use Rattle.std.specs.Prelude.{◌≡◌, ℕ, ◌+◌, ◌^◌, ◌<◌, List, [], ◌∷◌, ◌++◌, length, take, Option, ◌⊎◌}
 use Rattle.std.specs.Option.{ForSome}
 use Rattle.outside_io.specs.Told.{then_left, Reading, Writing, Takes}
 use Rattle.reply_env.specs.declared.request.Request.{Request}

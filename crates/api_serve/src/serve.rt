@@ -279,5 +279,7 @@ pub fn run_lines<S: Source, W: Sink, K: Keeper, C: Clock>(
     };
     a_session_opens();
     let buffer = buffer.as_mut_slice();
-    serve_session(alloc, keyspace, session, source, sink, store, clock, buffer, lists)
+    serve_session(
+        alloc, keyspace, session, source, sink, store, clock, buffer, lists,
+    )
 }

@@ -1,4 +1,4 @@
-use Rattle.std.proofs.Common.{◌≡◌, ◌++◌, ◌∷◌, [], ap, ◌∙◌, rules}
+use Rattle.std.proofs.Common.{◌++◌, ◌∷◌, [], ap, ◌∙◌, rules}
 use Rattle.api_serve.proofs.Makes.{one_made, known_later}
 use Rattle.api_serve.proofs.one.serve_request.Goals as goal
 

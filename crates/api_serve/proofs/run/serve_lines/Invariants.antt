@@ -1,4 +1,4 @@
-use Rattle.std.proofs.Common.{◌≡◌, ◌<◌, length}
+use Rattle.std.proofs.Common.{◌<◌, length}
 use Rattle.store_core.specs.Store.{IsLawful, SameBase}
 use Rattle.store_core.specs.Counts.{opened_in}
 use Rattle.api_serve.specs.Shown.{service_of, serving_of}

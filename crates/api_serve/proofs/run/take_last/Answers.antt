@@ -1,5 +1,5 @@
 use Rattle.api_serve.specs.declared.one.LineStop.{LineStop}
-use Rattle.std.proofs.Common.{Err, ◌≡◌, ◌∷◌, [], ℕ, List, length, true, false, refl, sym, ◌∙◌, ap, subst, arith}
+use Rattle.std.proofs.Common.{Err, ◌≡◌, length, refl, sym, ◌∙◌, ap, arith}
 use Rattle.api_serve.proofs.Waits.{last_none, last_served, last_short, served_as, short_as, length_none}
 use Rattle.api_serve.proofs.run.take_last.Goals as goal
 

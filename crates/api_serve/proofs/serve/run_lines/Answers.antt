@@ -10,7 +10,7 @@ returns-clause-ended g c =
       ended.0,
       ended.1,
       ends_in_store g.K.Keeper.failed c.args.keyspace.now c.args.store.now c.open_session.new.self c.in-Ok-open_session.session _ _ _ _ _ _ c.serve_session.result.how opened.0 opened.1
-      (λ base told. (c.journal_len.ensures.kept.history.begins base told).none_open) c.in-Ok-open_session.ensures.lawful c.a_session_opens.ensures ended.2,
+          (λ base told. (c.journal_len.ensures.kept.history.begins base told).none_open) c.in-Ok-open_session.ensures.lawful c.a_session_opens.ensures ended.2,
     )
 
 pub returns-clause-faults : goal.returns-clause-faults

@@ -1,4 +1,4 @@
-use Rattle.std.proofs.Common.{◌≡◌, ◌≤◌, ◌<◌}
+use Rattle.std.proofs.Common.{◌≤◌, ◌<◌}
 use Rattle.outside_io.specs.Told.{CountsGrow}
 use Rattle.store_core.specs.Store.{IsLawful, SameBase}
 use Rattle.store_core.specs.Counts.{opened_in}

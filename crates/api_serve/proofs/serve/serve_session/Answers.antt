@@ -1,4 +1,3 @@
-use Rattle.std.proofs.Common.{◌≡◌, ◌∷◌, [], map}
 use Rattle.api_serve.specs.Shown.{service_of}
 use Rattle.api_serve.proofs.Opened.{ends_begun, only_one}
 use Rattle.api_serve.proofs.serve.serve_session.Goals as goal
