@@ -159,6 +159,14 @@ module _ (base : Base) (coll : Name) (k : ℕ) where
       } in
       inl ((begun.0, begun.1, inl made), inl (made, tells))
 
+  -- the write was accepted
+  pub written_leads : (d : Value) (doc key : Tree) (earlier : List Sight) (H H' : List Entry) (at tx : ℕ) (reply : Reply) → tree d ≡ doc → key ≡ id_of doc → IsUnderWay base coll k (Inserting d) earlier
+      → H' ≡ H ++ Changed k coll key (Insert doc) None tx ∷ [] → at ≡ length H → number_at (replay base H) coll key ≡ None → TellsInserted (id_of doc) reply → Leads base coll k H' (Inserting d) earlier (m.Ends (Wrote at) reply)
+  written_leads d doc key earlier H H' at tx reply d_is key_is way longer here absent tells =
+      let id_is : key ≡ id_of (tree d) = key_is ∙ ap id_of (sym d_is) in
+      insert_serves (tree d) earlier H H' at tx reply way.0 (longer ∙ (λ i. H ++ Changed k coll (id_is i) (Insert (sym d_is i)) None tx ∷ [])) here
+      (subst (λ (t : Tree). number_at (replay base H) coll t ≡ None) id_is absent) (subst (λ (t : Tree). TellsInserted (id_of t) reply) (sym d_is) tells)
+
   taken_serves : (d : Tree) (earlier : List Sight) (s : Sight) (tx : ℕ) (reply : Reply) → IsBegun base coll k (insert_one d) earlier → IsTaken base coll k d tx s
       → Refuses (errors.already_exists (id_of d) tx) reply → Serves base coll k (insert_one d) (s ∷ earlier) reply
   taken_serves d earlier s tx reply begun taken refuses = ⊎_elim

@@ -105,8 +105,7 @@ module _ {K : Type 0} (failed : K → ℕ) where
     session = λ base told xs h. session_begins base s.journal t.session xs (exchange t (NoMemory 0)) none (stands_served s.start s.journal t stands base told) h;
   }
 
-  module _ (s₀ s s' : Stored K) (t₀ t t' : Task) (v : IsServing s₀ s t₀ t) (same : IsSame t t')
-  (adds : Adds t.session (failed s.keeper) (failed s'.keeper) s.journal s'.journal t.trace.items.items t'.trace.items.items) (base' : SameBase s s') (faults : failed s.keeper ≤ failed s'.keeper) (lawful : IsLawful s') where
+  module _ (s₀ s s' : Stored K) (t₀ t t' : Task) (v : IsServing s₀ s t₀ t) (same : IsSame t t') (adds : Adds t.session (failed s.keeper) (failed s'.keeper) s.journal s'.journal t.trace.items.items t'.trace.items.items) (base' : SameBase s s') (faults : failed s.keeper ≤ failed s'.keeper) (lawful : IsLawful s') where
     by_session : Adds t₀.session (failed s.keeper) (failed s'.keeper) s.journal s'.journal t.trace.items.items t'.trace.items.items
     by_session = subst (λ (k : ℕ). Adds k (failed s.keeper) (failed s'.keeper) s.journal s'.journal t.trace.items.items t'.trace.items.items) v.same.session adds
 

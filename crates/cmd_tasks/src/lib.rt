@@ -6,6 +6,8 @@ mod laws;
 mod run;
 mod steps;
 mod task;
+#[cfg(test)]
+mod tests;
 mod trace;
 mod work;
 

@@ -6,15 +6,13 @@ use Rattle.col_keeper.specs.Tables.{IsShort}
 use Rattle.reply_env.specs.Messages as errors
 use Rattle.store_core.specs.State.{number_at}
 use Rattle.store_core.specs.Journal.{replay}
-use Rattle.store_core.specs.declared.entry.Entry.TheVariants.{Changed}
-use Rattle.store_core.specs.declared.entry.Change.TheVariants.{Insert}
-use Rattle.cmd_grammar.specs.Commands.{insert_one}
-use Rattle.cmd_tasks.specs.Served.{sights, Serves}
-use Rattle.cmd_tasks.specs.Moves.{IsBegun, EndsSo, Refuses}
+use Rattle.reply_env.specs.declared.reply.Reply.TheVariants.{Inserted}
+use Rattle.cmd_tasks.specs.Served.{sights}
+use Rattle.cmd_tasks.specs.Moves.{EndsSo, Refuses}
 use Rattle.cmd_tasks.specs.declared.trace.Item.TheVariants.{Lost}
 use Rattle.cmd_tasks.specs.declared.work.State.TheVariants.{Inserting}
 use Rattle.cmd_tasks.proofs.Glances.{wrote_here}
-use Rattle.cmd_tasks.proofs.Requests.{insert_serves, lost_leads, taken_steps, found_one, marked_steps, marked_leads, failed_steps, failed_leads}
+use Rattle.cmd_tasks.proofs.Requests.{written_leads, lost_leads, taken_steps, found_one, marked_steps, marked_leads, failed_steps, failed_leads}
 use Rattle.cmd_tasks.proofs.steps.insert_doc.Goals as goal
 
 pub write-requires-clause-short : goal.write-requires-clause-short
@@ -30,10 +28,8 @@ pub returns-in-Written-clause-leads : goal.returns-in-Written-clause-leads
 returns-in-Written-clause-leads g c = λ d d_is base told_base trace placed way.
     let earlier = sights c.args.store.now.journal trace in
     let told = c.in-Written.ensures.answers in
-    subst (λ (t : Tree). Serves base c.args.coll.now c.args.by (insert_one t) _ _) (sym d_is)
-    (insert_serves base c.args.coll.now c.args.by c.args.insertion.doc earlier _ _ c.in-Written.at c.in-Written.tx _ (subst (λ (t : Tree). IsBegun base c.args.coll.now c.args.by (insert_one t) earlier) d_is way.0)
-    (subst (λ (i : Tree). c.write.new.store.journal ≡ c.args.store.now.journal ++ Changed c.args.by c.args.coll.now i (Insert c.args.insertion.doc) None c.in-Written.tx ∷ []) c.requires.ids.0 told.0.1) told.0.0
-    (subst (λ (i : Tree). number_at (replay base c.args.store.now.journal) c.args.coll.now i ≡ None) c.requires.ids.0 (told.2 base told_base).1) c.requires.ids.2)
+    written_leads base c.args.coll.now c.args.by d c.args.insertion.doc c.args.insertion.ids.key earlier c.args.store.now.journal c.write.new.self.journal c.in-Written.at c.in-Written.tx (Inserted c.args.insertion.ids.reply)
+    d_is c.requires.ids.0 way told.0.1 told.0.0 (told.2 base told_base).1 c.requires.ids.2
 
 pub taken-requires : goal.taken-requires
 taken-requires g c = let f = found_one c.in-Lost.found c.in-Lost.ensures.answers.1 in subst (λ (o : Option ℕ). IsSome o) (sym f.1) refl
@@ -50,7 +46,7 @@ returns-in-Lost-clause-leads g c = λ d d_is base told_base trace placed way.
     let told = c.in-Lost.ensures.answers in
     let f = found_one c.in-Lost.found told.1 in
     let key_is : c.args.insertion.ids.key ≡ id_of (tree d) = c.requires.ids.0 ∙ ap id_of (sym d_is) in
-    lost_leads base c.args.coll.now c.args.by d earlier c.args.store.now.journal c.write.new.store.journal c.in-Lost.at f.0 c.in-Lost.found c.taken.result way told.0.1 told.0.0 f.1
+    lost_leads base c.args.coll.now c.args.by d earlier c.args.store.now.journal c.write.new.self.journal c.in-Lost.at f.0 c.in-Lost.found c.taken.result way told.0.1 told.0.0 f.1
     (subst (λ (i : Tree). number_at (replay base c.args.store.now.journal) c.args.coll.now i ≡ c.in-Lost.found) key_is (told.2 base told_base).1)
     (subst (λ (i : Tree). EndsSo (Lost c.in-Lost.at 0 (Some f.0)) (Refuses (errors.already_exists i f.0)) c.taken.result) key_is (c.taken.ensures f.0 f.1))
 
@@ -63,7 +59,7 @@ pub returns-in-NoCollection-clause-leads : goal.returns-in-NoCollection-clause-l
 returns-in-NoCollection-clause-leads g c = λ d d_is base told_base trace placed way.
     let earlier = sights c.args.store.now.journal trace in
     let told = c.in-NoCollection.ensures.answers in
-    marked_leads base c.args.coll.now c.args.by d earlier c.args.store.now.journal c.write.new.store.journal c.in-NoCollection.at c.args.insertion.ids.key c.args.insertion.ids.twin (errors.no_collection c.args.coll.now) c.marked.result
+    marked_leads base c.args.coll.now c.args.by d earlier c.args.store.now.journal c.write.new.self.journal c.in-NoCollection.at c.args.insertion.ids.key c.args.insertion.ids.twin (errors.no_collection c.args.coll.now) c.marked.result
     (c.requires.ids.0 ∙ ap id_of (sym d_is)) (c.requires.ids.1 ∙ ap id_of (sym d_is)) way told.0.1 told.0.0 (inl (told.1 base told_base, refl)) (c.marked.ensures (errors.no_collection c.args.coll.now) (search rules))
 
 pub returns-in-VersionsSpent-clause-steps : goal.returns-in-VersionsSpent-clause-steps
@@ -75,7 +71,7 @@ pub returns-in-VersionsSpent-clause-leads : goal.returns-in-VersionsSpent-clause
 returns-in-VersionsSpent-clause-leads g c = λ d d_is base told_base trace placed way.
     let earlier = sights c.args.store.now.journal trace in
     let told = c.in-VersionsSpent.ensures.answers in
-    marked_leads base c.args.coll.now c.args.by d earlier c.args.store.now.journal c.write.new.store.journal c.in-VersionsSpent.at c.args.insertion.ids.key c.args.insertion.ids.twin errors.versions_spent c.marked-in-VersionsSpent.result
+    marked_leads base c.args.coll.now c.args.by d earlier c.args.store.now.journal c.write.new.self.journal c.in-VersionsSpent.at c.args.insertion.ids.key c.args.insertion.ids.twin errors.versions_spent c.marked-in-VersionsSpent.result
     (c.requires.ids.0 ∙ ap id_of (sym d_is)) (c.requires.ids.1 ∙ ap id_of (sym d_is)) way told.0.1 told.0.0 (inr (c.journal_len.ensures.next base told_base ∙ told.1, refl)) (c.marked-in-VersionsSpent.ensures errors.versions_spent c.versions_spent.ensures)
 
 pub returns-in-Fault-clause-steps : goal.returns-in-Fault-clause-steps
@@ -87,4 +83,4 @@ pub returns-in-Fault-clause-leads : goal.returns-in-Fault-clause-leads
 returns-in-Fault-clause-leads g c = λ d d_is base told_base trace placed way.
     let earlier = sights c.args.store.now.journal trace in
     let told = c.in-Fault.ensures.answers in
-    failed_leads base c.args.coll.now c.args.by d earlier c.args.store.now.journal c.write.new.store.journal c.in-Fault.at c.in-Fault.before c.in-Fault.after c.failed.result way told.entered told.point c.failed.ensures
+    failed_leads base c.args.coll.now c.args.by d earlier c.args.store.now.journal c.write.new.self.journal c.in-Fault.at c.in-Fault.before c.in-Fault.after c.failed.result way told.entered told.point c.failed.ensures

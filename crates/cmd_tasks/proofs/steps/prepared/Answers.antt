@@ -9,5 +9,5 @@ some_id : (o : Option Tree) → MatchOption o ⊥ IsId → IsSome o
 some_id None h = absurd h
 some_id (Some x) h = refl
 
-pub of_value-doc-requires-clause-id : goal.of_value-doc-requires-clause-id
-of_value-doc-requires-clause-id c = some_id (id_in (tree c.args.document)) c.requires.document.id
+pub of_value-requires-clause-id : goal.of_value-requires-clause-id
+of_value-requires-clause-id c = some_id (id_in (tree c.args.document)) c.requires.document.id

@@ -1,8 +1,19 @@
-use Rattle.std.proofs.Common.{rules, refl, sym, subst}
+use Rattle.std.proofs.Common.{rules, refl, sym, subst, ◌≡◌, ◌+◌, ◌<◌, ◌≤◌, ℕ, true, Result, Ok, Err, arith}
+use Rattle.std.specs.Prelude.{OnOk, is_ok}
 use Rattle.reply_env.specs.declared.reply.Reply.TheVariants.{NoMemory}
 use Rattle.cmd_tasks.specs.Stands.{StandsOn}
 use Rattle.cmd_tasks.proofs.Standing.{stands_on, served_so, cut_so, done_so}
 use Rattle.cmd_tasks.proofs.task.Task.step.Goals as goal
+
+room : {X E : Type 0} (r : Result X E) (n cap : ℕ) → is_ok r ≡ true → OnOk r (n + 1 ≤ cap) → n < cap
+room (Ok x) n cap e h = omega (arith, h)
+room (Err z) n cap e h = cc
+
+pub push_reserved-requires : goal.push_reserved-requires
+push_reserved-requires g c = room c.reserve.result _ _ c.if-is_err.ensures.negation c.reserve.ensures.ok
+
+pub push_reserved-requires-in-Ends : goal.push_reserved-requires-in-Ends
+push_reserved-requires-in-Ends g c = room c.reserve.result _ _ c.if-is_err.ensures.negation c.reserve.ensures.ok
 
 pub returns-then-is_err-clause-done : goal.returns-then-is_err-clause-done
 returns-then-is_err-clause-done g c = λ d. done_so c.replace-state.new.dest _ (NoMemory 0) c.replace-state.ensures.after
