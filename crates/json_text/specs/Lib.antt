@@ -15,4 +15,5 @@ pub mod Fault
 pub mod Builds
 pub mod Ahead
 pub mod Print
+pub mod Fraction
 pub mod Short

@@ -12,6 +12,7 @@ mod print;
 mod quick;
 mod read;
 mod string;
+mod units;
 
 pub use laws::{numerals_are_written_so, strings_are_written_so};
 pub use measure::text_len;

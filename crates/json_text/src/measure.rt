@@ -5,6 +5,7 @@ ghost use Rattle.json_tree.specs.Tree.{list, object, elements_of, members_of};
 ghost use Rattle.json_tree.specs.View.{tree};
 ghost use Rattle.json_text.specs.Print.{capped, escaped, string_text, trimmed, with_point, magnitude_text, number_text, boolean_text, date_text, separator, text_of};
 
+use crate::units::{split_units, trimmed_fraction};
 use json_tree::{Items, Members, Value};
 
 fn plus(a: u64, b: u64) -> u64
@@ -39,29 +40,23 @@ fn fraction_len(n: u64) -> u64
     ensures value { result ≡ length (with_point (trimmed 18 n)) }
     ensures small { result ≤ 19 }
 {
-    let mut left = n;
-    let mut k = 18;
-    'zeros: while k > 0 && left % 10 == 0 {
-        left /= 10;
-        k -= 1;
-    }
-    if k == 0 {
+    let fraction = trimmed_fraction(n);
+    if fraction.digits == 0 {
         return 0;
     }
-    k + 1
+    fraction.digits as u64 + 1
 }
 
 fn number_len(units: i128) -> u64
     ensures { result ≡ length (number_text units) }
 {
-    let size = units.unsigned_abs();
+    let (whole, left) = split_units(units.unsigned_abs());
     let mut buffer = itoa::Buffer::new();
-    let whole = buffer.format(size / 1_000_000_000_000_000_000).len() as u64;
-    let fraction = fraction_len((size % 1_000_000_000_000_000_000) as u64);
+    let len = buffer.format(whole).len() as u64 + fraction_len(left);
     if units < 0 {
-        return whole + fraction + 1;
+        return len + 1;
     }
-    whole + fraction
+    len
 }
 
 fn date_len(date: i64) -> u64

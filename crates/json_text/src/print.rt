@@ -9,15 +9,14 @@ ghost use Rattle.json_tree.specs.View.{tree};
 ghost use Rattle.json_text.specs.Grammar.{Reads};
 ghost use Rattle.json_tree.specs.Writable.{IsWritable, tree_levels};
 ghost use Rattle.json_text.specs.declared.read.TextFault.TheVariants.{NoMemory};
+ghost use Rattle.json_text.specs.Fraction.{IsFraction};
 ghost use Rattle.json_text.specs.Print.{escaped, string_text, padded, trimmed, with_point, magnitude_text, number_text, boolean_text, date_text, separator, text_of, Extends};
 
 use crate::read::TextFault;
 use crate::string::plain_len;
+use crate::units::{Fraction, split_units, trimmed_fraction};
 use json_tree::{Items, Members, Value};
 use std::alloc::{AllocError, Global};
-
-// How many units 1 has.
-const UNIT: u128 = 1_000_000_000_000_000_000;
 
 fn digit_char(digit: u8) -> u8
     requires { digit < 16 }
@@ -77,58 +76,68 @@ fn write_content(text: &[u8], out: &mut Vec<u8>) -> Result<(), AllocError>
     }
 }
 
+#[cold]
 #[tactic(auto, using(crate::proofs::Kept::kept))]
-fn print_string(text: &str, out: &mut Vec<u8>) -> Result<(), AllocError>
+fn print_escaped(text: &[u8], out: &mut Vec<u8>) -> Result<(), AllocError>
     ensures ok { OnOk result (out.new.items ≡ out.old.items ++ string_text text.now) }
     ensures kept { OnErr result (Extends out.old.items out.new.items) }
 {
     out.push(b'"')?;
-    write_content(text.as_bytes(), out)?;
+    write_content(text, out)?;
     out.push(b'"')?;
     Ok(())
 }
 
-#[tactic(auto, using(crate::proofs::Prints::digits, crate::proofs::Kept::kept), unfolding(crate::specs::Print::padded))]
-fn print_digits(digits: u32, unit: u64, n: u64, out: &mut Vec<u8>) -> Result<(), AllocError>
-    requires unit { (unit ≡ 10 ^ digits) × (digits ≤ 18) }
-    requires small { n < unit }
-    ensures ok { OnOk result (out.new.items ≡ out.old.items ++ padded digits n) }
+// A string in which each byte stands for itself.
+#[inline]
+#[tactic(auto, using(crate::proofs::Kept::kept))]
+fn print_plain(text: &[u8], out: &mut Vec<u8>) -> Result<(), AllocError>
+    ensures ok { OnOk result (out.new.items ≡ out.old.items ++ 34 ∷ (text.now ++ 34 ∷ [])) }
     ensures kept { OnErr result (Extends out.old.items out.new.items) }
 {
-    let mut left = n;
-    let mut unit = unit;
-    let mut k = digits;
-    'digits: while k > 0 {
-        unit /= 10;
-        out.push(b'0' + (left / unit) as u8)?;
-        left %= unit;
-        k -= 1;
-    }
+    out.reserve(text.len() + 2)?;
+    out.push_reserved(b'"');
+    out.extend_from_slice(text)?;
+    out.push_reserved(b'"');
     Ok(())
 }
 
-#[tactic(auto, using(crate::proofs::Prints::fractions, crate::proofs::Kept::kept))]
+#[tactic(auto, using(crate::proofs::Prints::content_plain))]
+fn print_string(text: &str, out: &mut Vec<u8>) -> Result<(), AllocError>
+    ensures ok { OnOk result (out.new.items ≡ out.old.items ++ string_text text.now) }
+    ensures kept { OnErr result (Extends out.old.items out.new.items) }
+{
+    let bytes = text.as_bytes();
+    if plain_len(bytes) < bytes.len() {
+        return print_escaped(bytes, out);
+    }
+    print_plain(bytes, out)
+}
+
+// The digits after the point, zeros in front included: the number that has a 1 in front of them.
+#[tactic(auto, using(crate::proofs::Kept::kept))]
+fn print_digits(fraction: Fraction, out: &mut Vec<u8>) -> Result<(), AllocError>
+    requires { IsFraction fraction }
+    ensures ok { OnOk result (out.new.items ≡ out.old.items ++ padded fraction.digits fraction.left) }
+    ensures kept { OnErr result (Extends out.old.items out.new.items) }
+{
+    let mut buffer = itoa::Buffer::new();
+    let text = buffer.format(fraction.one + fraction.left);
+    out.extend_from_slice(&text.as_bytes()[1..])
+}
+
+#[tactic(auto, using(crate::proofs::Kept::kept))]
 fn print_fraction(n: u64, out: &mut Vec<u8>) -> Result<(), AllocError>
     requires { n < 10 ^ 18 }
     ensures ok { OnOk result (out.new.items ≡ out.old.items ++ with_point (trimmed 18 n)) }
     ensures kept { OnErr result (Extends out.old.items out.new.items) }
 {
-    if n == 0 {
-        return Ok(());
-    }
-    let mut left = n;
-    let mut unit = 1_000_000_000_000_000_000;
-    let mut k = 18;
-    'zeros: while k > 0 && left % 10 == 0 {
-        left /= 10;
-        unit /= 10;
-        k -= 1;
-    }
-    if k == 0 {
+    let fraction = trimmed_fraction(n);
+    if fraction.digits == 0 {
         return Ok(());
     }
     out.push(b'.')?;
-    print_digits(k, unit, left, out)?;
+    print_digits(fraction, out)?;
     Ok(())
 }
 
@@ -149,8 +158,9 @@ fn print_magnitude(n: u128, out: &mut Vec<u8>) -> Result<(), AllocError>
     ensures ok { OnOk result (out.new.items ≡ out.old.items ++ magnitude_text n) }
     ensures kept { OnErr result (Extends out.old.items out.new.items) }
 {
-    print_whole(n / UNIT, out)?;
-    print_fraction((n % UNIT) as u64, out)?;
+    let (whole, left) = split_units(n);
+    print_whole(whole, out)?;
+    print_fraction(left, out)?;
     Ok(())
 }
 

@@ -191,6 +191,24 @@ fn marks(block: u8x16) -> u64
     (marked | block.simd_lt(u8x16::splat(0x20))).to_bitmask()
 }
 
+#[inline(always)]
+fn marks_of_eight(block: u8x8) -> u64
+    requires { length block ≡ 8 }
+    ensures { result ≡ mask_l (map is_mark block) }
+{
+    let marked = block.simd_eq(u8x8::splat(b'"')) | block.simd_eq(u8x8::splat(b'\\'));
+    (marked | block.simd_lt(u8x8::splat(0x20))).to_bitmask()
+}
+
+#[inline(always)]
+fn marks_of_four(block: u8x4) -> u64
+    requires { length block ≡ 4 }
+    ensures { result ≡ mask_l (map is_mark block) }
+{
+    let marked = block.simd_eq(u8x4::splat(b'"')) | block.simd_eq(u8x4::splat(b'\\'));
+    (marked | block.simd_lt(u8x4::splat(0x20))).to_bitmask()
+}
+
 // How many bytes stand for themselves from a place on, one at a time.
 fn plain_len_from(bytes: &[u8], from: usize) -> usize
     requires { from ≤ length bytes.now }
@@ -201,6 +219,36 @@ fn plain_len_from(bytes: &[u8], from: usize) -> usize
         len += 1;
     }
     len
+}
+
+// The same, four at first.
+fn plain_len_by_four(bytes: &[u8], from: usize) -> usize
+    requires { from ≤ length bytes.now }
+    ensures { result ≡ from + prefix_len is_plain (drop from bytes.now) }
+{
+    if bytes.len() - from < 4 {
+        return plain_len_from(bytes, from);
+    }
+    let marked = marks_of_four(u8x4::from_slice(&bytes[from..]));
+    if marked != 0 {
+        return from + marked.trailing_zeros() as usize;
+    }
+    plain_len_from(bytes, from + 4)
+}
+
+// The same, eight at first.
+fn plain_len_by_eight(bytes: &[u8], from: usize) -> usize
+    requires { from ≤ length bytes.now }
+    ensures { result ≡ from + prefix_len is_plain (drop from bytes.now) }
+{
+    if bytes.len() - from < 8 {
+        return plain_len_by_four(bytes, from);
+    }
+    let marked = marks_of_eight(u8x8::from_slice(&bytes[from..]));
+    if marked != 0 {
+        return from + marked.trailing_zeros() as usize;
+    }
+    plain_len_by_four(bytes, from + 8)
 }
 
 // How many bytes at the front stand for themselves.
@@ -216,7 +264,7 @@ pub(crate) fn plain_len(bytes: &[u8]) -> usize
         }
         len += BLOCK;
     }
-    plain_len_from(bytes, len)
+    plain_len_by_eight(bytes, len)
 }
 
 // The bytes at the front that stand for themselves, and what follows them.

@@ -1,15 +1,17 @@
-use Rattle.std.proofs.Common.{arith}
-use Rattle.json_text.proofs.Prints.{tenth, digit_rest, digit_more}
-use Rattle.json_text.proofs.Kept.{extends-on, extends-more}
+use Rattle.std.proofs.Common.{rules, arith, ◌≡◌, ◌+◌, ◌-◌, ◌<◌, ◌≤◌, ◌^◌, ◌∷◌, ◌++◌, length, take, drop, decimal, ap, ◌∙◌}
+use Rattle.json_text.specs.Print.{padded}
+use Rattle.json_text.proofs.Prints.{one_first, behind_first}
 use Rattle.json_text.proofs.print.print_digits.Goals as goal
 
-pub digits-preserved : goal.digits-preserved
-digits-preserved c =
-    let i = c.digits.invariant in
-    record {
-      unit = tenth c.digits.unit c.digits.k i.unit (omega arith);
-      few = omega arith;
-      small = digit_rest c.digits.k c.digits.unit c.digits.left i.unit (omega arith);
-      kept = extends-on _ _ _ i.kept (extends-more _ _ _ c.in_ok-push.ensures.items);
-      more = digit_more c.digits.out.items c.push.new.self.items _ c.digits.k c.digits.unit c.digits.left i.unit (omega arith) c.in_ok-push.ensures.items i.more;
-    }
+pub slice_bounds-extend_from_slice-count : goal.slice_bounds-extend_from_slice-count
+slice_bounds-extend_from_slice-count c = omega (arith, ap length (one_first c.args.fraction c.requires _ (c.as_bytes.ensures.value ∙ c.format-text.ensures.text)))
+
+pub slice_bounds-extend_from_slice-start : goal.slice_bounds-extend_from_slice-start
+slice_bounds-extend_from_slice-start c =
+    let long : 1 ≤ length c.as_bytes.result.now = omega (arith, ap length (one_first c.args.fraction c.requires _ (c.as_bytes.ensures.value ∙ c.format-text.ensures.text))) in
+    search (rules, long)
+
+pub returns-clause-ok : goal.returns-clause-ok
+returns-clause-ok c =
+    let rest = behind_first _ _ (one_first c.args.fraction c.requires _ (c.as_bytes.ensures.value ∙ c.format-text.ensures.text)) in
+    search (rules, rest)
