@@ -9,7 +9,7 @@ use Rattle.std.specs.List.{prefix_len}
 use lib.Bits.{bit_or}
 use lib.Count.{count_trailing_zeros}
 use lib.Lanes.{zip2, mask_l, top, chunk}
-use Rattle.json_text.specs.Part.{is_mark, is_plain}
+use Rattle.json_text.specs.Unescaped.{is_mark, is_plain}
 
 -- all bits, where the test holds
 abbrev lane : Bool → ℕ

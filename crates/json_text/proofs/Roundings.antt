@@ -8,8 +8,8 @@ use Rattle.std.specs.Char.{is_ascii_digit, digit_value}
 use Rattle.std.specs.Str.Parse.{digits_value_after}
 use Rattle.std.proofs.lemmas.Int.{ints}
 use Rattle.json_tree.specs.Num.{in_range}
-use Rattle.json_text.specs.Capped.{IsRounded, IsLost}
-use Rattle.json_text.specs.declared.decimal.Rounded.{Rounded}
+use Rattle.json_text.specs.Rounding.{IsRounded, IsLost}
+use Rattle.json_text.specs.declared.token.decimal.Rounded.{Rounded}
 use Rattle.json_tree.specs.Decimals.{ten_step, fitted, scaled-times, fitted-far, fitted-zero, fitted-lost}
 
 lost_rest : (b : Bool) (r : ℕ) → IsLost b r → b ≡ true → 0 < r
@@ -48,27 +48,6 @@ rounded_far v r p d e some far =
     rounded_power v r p d e ∙ fitted-far r.coefficient (p +ℤ pos r.zeros) (omega arith) d.fits (⊎_elim (λ h. inl (omega (arith, ints))) (λ h. inr (omega (arith, ints))) far)
 
 -- ---- one more digit
-
-pub digit_kept : (v digit : ℕ) (r : Rounded) → IsRounded v r → digit < 10 → r.zeros ≡ 0 → r.coefficient < 10 ^ 37
-    → IsRounded (v * 10 + digit) (record { coefficient = r.coefficient * 10 + digit; zeros = r.zeros; lost = r.lost })
-digit_kept v digit r d small z fits =
-    let one : 10 ^ r.zeros ≡ 1 = ap (λ k. 10 ^ k) z in
-    let none : d.rest ≡ 0 = omega (arith, d.small) in
-    let whole : v ≡ r.coefficient = d.value ∙ ap (λ p. r.coefficient * p + d.rest) one ∙ add none in
-    record {
-      rest = d.rest;
-      value = ap (λ n. n * 10 + digit) whole ∙ sym (ap (λ p. (r.coefficient * 10 + digit) * p + d.rest) one ∙ add_more none);
-      small = d.small;
-      lost = d.lost;
-      fits = omega arith;
-      grown = λ h. absurd (omega arith);
-    }
-  where
-    add : d.rest ≡ 0 → r.coefficient * 1 + d.rest ≡ r.coefficient
-    add e = omega arith
-
-    add_more : d.rest ≡ 0 → (r.coefficient * 10 + digit) * 1 + d.rest ≡ r.coefficient * 10 + digit
-    add_more e = omega arith
 
 lost_more : (b : Bool) (rest digit : ℕ) → IsLost b rest → IsLost (b || not (eqb digit 0)) (rest * 10 + digit)
 lost_more true rest digit l = omega arith

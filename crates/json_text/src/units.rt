@@ -4,7 +4,7 @@ ghost use Rattle.json_text.specs.Print.{padded, trimmed};
 ghost use Rattle.json_text.specs.Fraction.{IsFraction};
 
 // How many units 1 has: 2^18 times 5^18.
-const UNIT: u128 = 1_000_000_000_000_000_000;
+pub(crate) const UNIT: u128 = 1_000_000_000_000_000_000;
 
 const TWOS: u128 = 262_144;
 

@@ -1,5 +1,5 @@
 use Rattle.std.proofs.Common.{arith}
-use Rattle.json_text.proofs.Prints.{zero_padded}
+use Rattle.json_text.proofs.PrintSteps.{zero_padded}
 use Rattle.json_text.proofs.units.trimmed_fraction.Goals as goal
 
 pub returns-then-n-eq0-clause-digits : goal.returns-then-n-eq0-clause-digits
