@@ -6,7 +6,7 @@ pub mod FirstFault
 pub mod Bounds
 pub mod Law
 pub mod Runs
-pub mod Roundings
+pub mod CutNumbers
 pub mod NumeralValues
 pub mod Wide
 pub mod StringSteps

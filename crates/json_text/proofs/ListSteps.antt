@@ -4,7 +4,7 @@ use Rattle.std.proofs.Math.Seq.{drop-cons}
 use Rattle.std.proofs.lemmas.Option.{slice_get_within, get_or_from_slice_get}
 use Rattle.std.proofs.lemmas.List.{length-append}
 use Rattle.std.proofs.lemmas.Bool.{ne_eqb}
-use Rattle.json_tree.specs.Tree.{Tree, Elements, no_elements, element, Members, no_members, member, tree_size, trees_size, pairs_size, elements_of, members_of}
+use Rattle.json_tree.specs.Tree.{Tree, Elements, element, Members, member, tree_size, trees_size, pairs_size, elements_of, members_of}
 use Rattle.json_text.specs.Print.{capped, string_text, text_of, separator, elements_text, members_text, more_elements, more_members}
 use Rattle.json_tree.specs.Falls.{elements_size-elements_of, members_size-members_of}
 

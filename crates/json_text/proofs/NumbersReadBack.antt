@@ -20,7 +20,8 @@ use Rattle.json_tree.specs.Num.{scaled, in_range, units_of}
 use Rattle.json_text.specs.Lex.{is_blank, is_letter, string_token, number_token, numeral_at, word_at, token_at}
 use Rattle.json_text.specs.Print.{padded, trimmed, with_point, magnitude_text, number_text}
 use Rattle.json_tree.specs.Decimals.{ten_pos, in_range-small}
-use Rattle.json_text.proofs.NumeralValues.{some_parts, digits_append}
+use Rattle.json_text.proofs.NumeralValues.{some_parts}
+use Rattle.json_tree.specs.DigitLists.{digits_append}
 use Rattle.json_text.proofs.PrintSteps.{length-padded}
 
 -- ---- runs

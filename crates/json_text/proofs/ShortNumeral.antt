@@ -14,8 +14,8 @@ use Rattle.json_text.specs.Numeral.{is_numeral_byte, is_whole, decimal_of, unsig
 use Rattle.json_text.specs.ShortNumeral.{IsFront, Stops, IsFraction, IsShort}
 use Rattle.json_text.specs.Print.{with_point}
 use Rattle.json_tree.specs.Decimals.{in_range-small, ten_pos, ten_step, ten_split}
-use Rattle.json_text.proofs.NumeralValues.{digits_append, some_parts}
-use Rattle.json_text.proofs.Roundings.{digit_is}
+use Rattle.json_text.proofs.NumeralValues.{some_parts}
+use Rattle.json_tree.specs.DigitLists.{digit_is, digits_append}
 use Rattle.json_text.proofs.NumbersReadBack.{RunEnds, run_stops, run_front, run_rest, all_both, all_more, all_point, digit_in_numeral, point_stops, fraction_point, fraction_power, no_minus}
 
 -- a digit more

@@ -1,5 +1,5 @@
 -- The digits of a fraction. Only the crate's private clauses cite it.
-use Rattle.std.specs.Prelude.{◌≡◌, ◌^◌, ◌<◌, ◌≤◌, ℕ}
+use Rattle.std.specs.Prelude.{◌≡◌, ◌^◌, ◌<◌, ◌≤◌}
 use Rattle.json_text.specs.declared.units.Fraction.{Fraction}
 
 abbrev pub IsFraction : Fraction → Type 0

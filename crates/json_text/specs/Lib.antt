@@ -5,7 +5,6 @@ pub mod Lex
 pub mod Grammar
 pub mod FaultKinds
 pub mod Machine
-pub mod Rounding
 pub mod SplitNumeral
 pub mod Front
 pub mod Unescaped

@@ -2,7 +2,7 @@
 use Rattle.std.specs.Prelude.{◌≡◌, ℕ, ◌^◌, ◌<◌, ◌≤◌, ℤ, pos, negsuc, ◌≤ℤ◌, List, Option, Some, IsTrue, ◌⊎◌}
 use Rattle.std.specs.List.{list_all}
 use Rattle.std.specs.Char.{is_ascii_digit}
-use Rattle.json_text.specs.Rounding.{IsCut}
+use Rattle.json_tree.specs.Cut.{IsCut}
 use Rattle.json_text.specs.Numeral.{decimal_of, unsigned}
 use Rattle.json_text.specs.declared.token.numeral.SplitNumeral.{SplitNumeral}
 

@@ -5,13 +5,12 @@ ghost use Rattle.std.specs.Char.{is_ascii_digit};
 ghost use Rattle.std.specs.Str.Parse.{digits_value, digits_value_after};
 ghost use Rattle.json_text.specs.Numeral.{is_numeral_byte, digits, after_digits, is_whole, fraction_at, whole_digits, signed_digits, exponent_of, decimal_of, unsigned, numeral};
 ghost use Rattle.json_tree.specs.Num.{units_of};
-ghost use Rattle.json_text.specs.Rounding.{IsCut};
+ghost use Rattle.json_tree.specs.Cut.{IsCut};
 ghost use Rattle.json_text.specs.SplitNumeral.{IsCutNumber, WholeRead, IsExponent, IsSplitNumeral};
 ghost use Rattle.json_text.specs.ShortNumeral.{IsFront, Stops, IsFraction, IsShort};
 
-use crate::token::decimal::{ZERO, few_units, ten_to, units, with_digits, with_few_digits};
 use crate::units::UNIT;
-use json_tree::Num;
+use json_tree::{Num, digits_units};
 
 // Past this an exponent puts any digits out of range.
 const FAR: u128 = 1_000_000_000_000_000_000_000;
@@ -77,6 +76,34 @@ fn after_point(bytes: &[u8]) -> Option<&[u8]>
     match bytes {
         [b'.', rest @ ..] => Some(rest),
         _ => None,
+    }
+}
+
+fn ten_to(power: u64) -> u64
+    requires { power ≤ 18 }
+    ensures value { result ≡ 10 ^ power }
+    ensures small { result ≤ 10 ^ 18 }
+{
+    match power {
+        0 => 1,
+        1 => 10,
+        2 => 100,
+        3 => 1_000,
+        4 => 10_000,
+        5 => 100_000,
+        6 => 1_000_000,
+        7 => 10_000_000,
+        8 => 100_000_000,
+        9 => 1_000_000_000,
+        10 => 10_000_000_000,
+        11 => 100_000_000_000,
+        12 => 1_000_000_000_000,
+        13 => 10_000_000_000_000,
+        14 => 100_000_000_000_000,
+        15 => 1_000_000_000_000_000,
+        16 => 10_000_000_000_000_000,
+        17 => 100_000_000_000_000_000,
+        _ => 1_000_000_000_000_000_000,
     }
 }
 
@@ -253,12 +280,7 @@ fn magnitude(parts: SplitNumeral<'_>) -> Option<u128>
         → result ≡ units_of (decimal_of parts.entry.whole.now parts.entry.fraction.now e) }
     ensures range { IfSome result (λ n. n < 10 ^ 38) }
 {
-    let (whole, fraction) = (parts.whole, parts.fraction);
-    let power = parts.exponent - fraction.len() as i128 + 18;
-    if whole.len() <= 18 && fraction.len() <= 18 - whole.len() {
-        return few_units(with_few_digits(with_few_digits(0, whole), fraction), power);
-    }
-    units(with_digits(with_digits(ZERO, whole), fraction), power)
+    digits_units(parts.whole, parts.fraction, parts.exponent)
 }
 
 fn unsigned(bytes: &[u8]) -> Option<Option<u128>>

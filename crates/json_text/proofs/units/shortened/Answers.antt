@@ -1,4 +1,4 @@
-use Rattle.std.proofs.Common.{◌≡◌, ◌≤◌, ◌/◌, ◌%◌, arith}
+use Rattle.std.proofs.Common.{◌≤◌, arith}
 use Rattle.std.proofs.Math.Nat.{div-le_self}
 use Rattle.json_text.proofs.PrintSteps.{ten_positive, one_over, left_over, trimmed_over}
 use Rattle.json_text.proofs.units.shortened.Goals as goal

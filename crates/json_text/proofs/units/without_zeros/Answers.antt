@@ -1,4 +1,4 @@
-use Rattle.std.proofs.Common.{◌∙◌, ◌/◌, refl, arith}
+use Rattle.std.proofs.Common.{◌∙◌, refl, arith}
 use Rattle.std.proofs.Math.Nat.{div-le_self}
 use Rattle.json_text.proofs.PrintSteps.{one_over, left_over, trimmed_over, done_padded}
 use Rattle.json_text.proofs.units.without_zeros.Goals as goal

@@ -1,5 +1,4 @@
-use Rattle.std.proofs.Common.{rules, arith, ◌≡◌, ◌+◌, ◌-◌, ◌<◌, ◌≤◌, ◌^◌, ◌∷◌, ◌++◌, length, take, drop, decimal, ap, ◌∙◌}
-use Rattle.json_text.specs.Print.{padded}
+use Rattle.std.proofs.Common.{rules, arith, ◌≤◌, length, ap, ◌∙◌}
 use Rattle.json_text.proofs.PrintSteps.{one_first, behind_first}
 use Rattle.json_text.proofs.print.number.print_digits.Goals as goal
 

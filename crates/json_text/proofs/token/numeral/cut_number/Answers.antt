@@ -1,6 +1,7 @@
 use Rattle.std.proofs.Common.{◌+◌, inl, inr, ⊎_elim, ap, ◌∙◌, drop, arith}
 use Rattle.std.specs.Str.Parse.{digits_value, digits_value_after}
-use Rattle.json_text.proofs.Roundings.{next_digit, stays_far}
+use Rattle.json_tree.specs.DigitLists.{next_digit}
+use Rattle.json_text.proofs.CutNumbers.{stays_far}
 use Rattle.json_text.proofs.token.numeral.cut_number.Goals as goal
 use Rattle.json_text.proofs.token.numeral.cut_number.Goals.{then-n-lt-FAR, else-n-lt-FAR}
 

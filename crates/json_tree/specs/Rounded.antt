@@ -1,10 +1,6 @@
 -- How the code keeps exact values. Only the crate's private clauses cite it.
-use Rattle.std.specs.Prelude.{◌≡◌, ℕ, ◌+◌, ◌*◌, ◌^◌, ◌<◌, ◌≤◌, ℤ, pos, negsuc, ◌≤ℤ◌, ◌⊎◌, Bool, true, false}
-use Rattle.json_text.specs.declared.token.decimal.Rounded.{Rounded}
-
--- an exponent, cut off where it is far out of any range
-pub record IsCut (e cut : ℤ) : Type 0 where
-  pub same : (cut ≡ e) ⊎ (((pos (10 ^ 21) ≤ℤ e) × (pos (10 ^ 21) ≤ℤ cut)) ⊎ ((e ≤ℤ negsuc (10 ^ 20)) × (cut ≤ℤ negsuc (10 ^ 20))))
+use Rattle.std.specs.Prelude.{◌≡◌, ℕ, ◌+◌, ◌*◌, ◌^◌, ◌<◌, ◌≤◌, Bool, true, false}
+use Rattle.json_tree.specs.declared.digits.Rounded.{Rounded}
 
 -- the rest is lost where it isn't 0
 abbrev pub IsLost : Bool → ℕ → Type 0

@@ -1,24 +1,23 @@
-// Exact values, in units of 10^-18.
-ghost use Rattle.std.specs.Prelude.{◌≡◌, ℕ, ◌+◌, ◌*◌, ◌/◌, ◌%◌, ◌^◌, ◌<◌, ◌≤◌, ◌==◌, length, Some, None, IsTrue, option_and_then, if◌then◌else◌, MatchOption, IfSome, pos, negsuc, ◌≤ℤ◌};
-ghost use Rattle.json_text.specs.Rounding.{IsRounded};
+// The exact value of written digits: no more than 38 of them are kept, and what is lost is noticed.
+ghost use Rattle.std.specs.Prelude.{◌≡◌, ℕ, ℤ, ◌+◌, ◌*◌, ◌^◌, ◌<◌, ◌≤◌, ◌++◌, length, Some, None, IsTrue, option_and_then, IfSome, pos, negsuc, ◌-ℤ◌, ◌≤ℤ◌};
 ghost use Rattle.std.specs.List.{list_all};
-ghost use Rattle.std.specs.Char.{is_ascii_digit, digit_value};
+ghost use Rattle.std.specs.Char.{is_ascii_digit};
 ghost use Rattle.std.specs.Str.Parse.{digits_value, digits_value_after};
-ghost use Rattle.json_tree.specs.Num.{in_range, scaled};
+ghost use Rattle.json_tree.specs.Cut.{IsCut};
+ghost use Rattle.json_tree.specs.Rounded.{IsRounded};
+ghost use Rattle.json_tree.specs.Num.{in_range, scaled, units_of};
 
-use json_tree::scale;
+use crate::decimal::{LIMIT, scale_near};
 
-const LIMIT: u128 = 100_000_000_000_000_000_000_000_000_000_000_000_000;
-
-/// A coefficient times a power of ten, and whether a rest below that power is lost.
+// A coefficient times a power of ten, and whether a rest below that power is lost.
 #[derive(Clone, Copy)]
-pub(crate) struct Rounded {
+struct Rounded {
     coefficient: u128,
     zeros: u128,
     lost: bool,
 }
 
-pub(crate) const ZERO: Rounded = Rounded {
+const ZERO: Rounded = Rounded {
     coefficient: 0,
     zeros: 0,
     lost: false,
@@ -46,8 +45,8 @@ fn with_digit(r: Rounded, digit: u8) -> Rounded
     }
 }
 
-/// The number that the digits write when they follow those of r.
-pub(crate) fn with_digits(r: Rounded, digits: &[u8]) -> Rounded
+// The number that the digits write when they follow those of r.
+fn with_digits(r: Rounded, digits: &[u8]) -> Rounded
     requires digits { IsTrue (list_all is_ascii_digit digits.now) }
     requires room { r.zeros < 2 ^ 90 }
     requires fits { r.coefficient < LIMIT }
@@ -62,8 +61,8 @@ pub(crate) fn with_digits(r: Rounded, digits: &[u8]) -> Rounded
     r
 }
 
-/// The units that the value has with this power, where it is a number.
-pub(crate) fn units(r: Rounded, power: i128) -> Option<u128>
+// The units that the value has with this power, where it is a number.
+fn units(r: Rounded, power: i128) -> Option<u128>
     requires power { (negsuc (2 ^ 100) ≤ℤ power) × (power ≤ℤ pos (2 ^ 100)) }
     requires zeros { r.zeros < 2 ^ 100 }
     requires fits { r.coefficient < LIMIT }
@@ -84,11 +83,11 @@ pub(crate) fn units(r: Rounded, power: i128) -> Option<u128>
     if power > 38 {
         return None;
     }
-    scale(r.coefficient, power as i32)
+    scale_near(r.coefficient, power as i64)
 }
 
-/// The number that the digits write when they follow those of n.
-pub(crate) fn with_few_digits(n: u64, digits: &[u8]) -> u64
+// The number that the digits write when they follow those of n.
+fn with_few_digits(n: u64, digits: &[u8]) -> u64
     requires digits { IsTrue (list_all is_ascii_digit digits.now) }
     requires few { digits_value_after 10 n digits.now < 10 ^ 18 }
     ensures { result ≡ digits_value_after 10 n digits.now }
@@ -100,57 +99,34 @@ pub(crate) fn with_few_digits(n: u64, digits: &[u8]) -> u64
     n
 }
 
-pub(crate) fn ten_to(power: u64) -> u64
-    requires { power ≤ 18 }
-    ensures value { result ≡ 10 ^ power }
-    ensures small { result ≤ 10 ^ 18 }
-{
-    match power {
-        0 => 1,
-        1 => 10,
-        2 => 100,
-        3 => 1_000,
-        4 => 10_000,
-        5 => 100_000,
-        6 => 1_000_000,
-        7 => 10_000_000,
-        8 => 100_000_000,
-        9 => 1_000_000_000,
-        10 => 10_000_000_000,
-        11 => 100_000_000_000,
-        12 => 1_000_000_000_000,
-        13 => 10_000_000_000_000,
-        14 => 100_000_000_000_000,
-        15 => 1_000_000_000_000_000,
-        16 => 10_000_000_000_000_000,
-        17 => 100_000_000_000_000_000,
-        _ => 1_000_000_000_000_000_000,
-    }
-}
-
-fn times_ten_to(n: u64, power: u64) -> u128
-    requires power { power ≤ 18 }
-    requires few { n < 10 ^ 18 }
-    ensures value { Some result ≡ in_range (n * 10 ^ power) }
-    ensures range { result < LIMIT }
-{
-    n as u128 * ten_to(power) as u128
-}
-
-/// The units that a number of few digits has with this power, where it is one.
-pub(crate) fn few_units(n: u64, power: i128) -> Option<u128>
+// The units that a number of few digits has with this power, where it is one.
+fn few_units(n: u64, power: i128) -> Option<u128>
     requires power { (negsuc (2 ^ 100) ≤ℤ power) × (power ≤ℤ pos (2 ^ 100)) }
     requires few { n < 10 ^ 18 }
     ensures value { result ≡ option_and_then in_range (scaled n power) }
     ensures range { IfSome result (λ n. n < LIMIT) }
 {
-    if power >= 0 && power <= 18 {
-        return Some(times_ten_to(n, power as u64));
-    }
     let digits = Rounded {
         coefficient: n as u128,
         zeros: 0,
         lost: false,
     };
     units(digits, power)
+}
+
+/// The units of the number whose digits are these, the fraction's behind the point, times ten to the
+/// exponent, where that is a number. An exponent that is far out may be cut off.
+pub fn digits_units(whole: &[u8], fraction: &[u8], exponent: i128) -> Option<u128>
+    requires range { (negsuc (10 ^ 22) ≤ℤ exponent) × (exponent ≤ℤ pos (10 ^ 22)) }
+    requires whole { IsTrue (list_all is_ascii_digit whole.now) }
+    requires fraction { IsTrue (list_all is_ascii_digit fraction.now) }
+    ensures value { (e : ℤ) → IsCut e exponent
+        → result ≡ units_of (record { coefficient = digits_value 10 (whole.now ++ fraction.now); power = e -ℤ pos (length fraction.now) }) }
+    ensures range { IfSome result (λ n. n < 10 ^ 38) }
+{
+    let power = exponent - fraction.len() as i128 + 18;
+    if whole.len() <= 18 && fraction.len() <= 18 - whole.len() {
+        return few_units(with_few_digits(with_few_digits(0, whole), fraction), power);
+    }
+    units(with_digits(with_digits(ZERO, whole), fraction), power)
 }

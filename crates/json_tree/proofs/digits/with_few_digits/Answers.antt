@@ -1,6 +1,6 @@
 use Rattle.std.proofs.Common.{arith}
-use Rattle.json_text.proofs.NumeralValues.{few_more}
-use Rattle.json_text.proofs.token.decimal.with_few_digits.Goals as goal
+use Rattle.json_tree.proofs.Roundings.{few_more}
+use Rattle.json_tree.proofs.digits.with_few_digits.Goals as goal
 
 pub overflow_mul-n : goal.overflow_mul-n
 overflow_mul-n c =

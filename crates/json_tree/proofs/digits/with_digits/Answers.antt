@@ -1,6 +1,6 @@
 use Rattle.std.proofs.Common.{◌+◌, ◌-◌, ◌*◌, ◌∙◌, get_or, arith}
-use Rattle.json_text.proofs.Roundings.{next_digit}
-use Rattle.json_text.proofs.token.decimal.with_digits.Goals as goal
+use Rattle.json_tree.specs.DigitLists.{next_digit}
+use Rattle.json_tree.proofs.digits.with_digits.Goals as goal
 
 pub digits-preserved : goal.digits-preserved
 digits-preserved c =

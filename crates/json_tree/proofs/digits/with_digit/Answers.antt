@@ -1,7 +1,7 @@
 use Rattle.std.proofs.Common.{◌⊎◌, inl, inr, arith, ◌<◌, ◌≤◌, ◌^◌}
-use Rattle.json_text.proofs.Roundings.{digit_lost}
-use Rattle.json_text.proofs.token.decimal.with_digit.Goals as goal
-use Rattle.json_text.proofs.token.decimal.with_digit.Goals.{else-r-eq0-via-then-r-eq0+else-r, else-r-eq0-via-else-r-eq0}
+use Rattle.json_tree.proofs.Roundings.{digit_lost}
+use Rattle.json_tree.proofs.digits.with_digit.Goals as goal
+use Rattle.json_tree.proofs.digits.with_digit.Goals.{else-r-eq0-via-then-r-eq0+else-r, else-r-eq0-via-else-r-eq0}
 
 pub returns-clause-value : goal.returns-clause-value
 returns-clause-value c v d =
