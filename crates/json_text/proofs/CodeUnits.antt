@@ -1,5 +1,5 @@
 -- Escapes by code units.
-use Rattle.std.proofs.Common.{◌≡◌, ℕ, ◌<◌, ◌≤◌, List, [], ◌∷◌, ◌++◌, length, get_or, drop, Option, Some, None, option_map, option_and_then, Bool, true, false, cond, ◌&&◌, eqb, refl, sym, ap, ◌∙◌, arith, encode_utf8}
+use Rattle.std.proofs.Common.{◌≡◌, ℕ, ◌<◌, ◌≤◌, List, [], ◌∷◌, ◌++◌, length, Option, Some, None, option_map, option_and_then, Bool, true, false, cond, ◌&&◌, eqb, refl, sym, ap, ◌∙◌, arith, encode_utf8}
 use Rattle.std.proofs.lemmas.Bool.{ne_eqb}
 use Rattle.json_text.specs.Text.{Within, code_unit, is_high_half, is_low_half, pair_char, string_at, plain, after_u, after_high, after}
 use Rattle.json_text.specs.Unescaped.{IsUnescaped, unit_at, escaped_unit_at}
