@@ -11,4 +11,5 @@ pub mod Stored
 pub mod Ids
 pub mod Headed
 pub mod Seeking
+pub mod Started
 pub mod Runs
