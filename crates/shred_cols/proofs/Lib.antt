@@ -12,4 +12,5 @@ pub mod Ids
 pub mod Headed
 pub mod Seeking
 pub mod Started
+pub mod Scanned
 pub mod Runs

@@ -57,7 +57,7 @@ pub last_start : (column : ℕ) (es : List Entry) → 9 ≤ column → IsStart c
 last_start column es le = record { within = omega arith; before = λ k d l. omega (arith, at_most_eight (get_or es k d)); after = λ k d l m. absurd (omega arith) }
 
 -- entries before a column are before all that it says, and those past it aren't
-before_column : (column : ℕ) (path bytes : List ℕ) (low : Option ℤ) (e : Entry) → column_of e < column → is_before column path low bytes e ≡ true
+pub before_column : (column : ℕ) (path bytes : List ℕ) (low : Option ℤ) (e : Entry) → column_of e < column → is_before column path low bytes e ≡ true
 before_column column path bytes low e l = ap (λ o. is_gt (ordering_then o (ordering_then (slice_cmp nat_cmp path (path_of e)) (end_cmp low bytes e)))) (nat_greater column (column_of e) l)
 
 past_column : (column : ℕ) (path bytes : List ℕ) (low : Option ℤ) (e : Entry) → column < column_of e → is_before column path low bytes e ≡ false

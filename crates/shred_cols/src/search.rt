@@ -18,6 +18,9 @@ use crate::probe::{Probe, inside};
 use crate::starts::Starts;
 use std::cmp::Ordering;
 
+/// A column of no more entries than this is looked through, which takes less than a search.
+const SHORT: usize = 24;
+
 /// Whether an entry stands before a column, a path and a low end.
 fn is_before(column: u8, path: &str, low: Option<i128>, bytes: &[u8], entry: &Entry) -> bool
     ensures { result ≡ is_before column path.now low bytes.now entry.now }
@@ -83,8 +86,20 @@ fn entry_in(entries: &[Entry], place: usize) -> Option<&Entry>
     entries.get(place)
 }
 
-/// Whether one of the entries is one that a probe asks for.
-pub(crate) fn any_inside(probe: &Probe, entries: &[Entry], starts: &Starts) -> bool
+/// Whether an entry of a run is one that a probe asks for.
+fn any_of(probe: &Probe, run: &[Entry]) -> bool
+    ensures { result ≡ list_any (inside probe.now) run.now }
+{
+    for entry in run {
+        if inside(probe, entry) {
+            return true;
+        }
+    }
+    false
+}
+
+/// The same of all entries, by a search.
+fn any_found(probe: &Probe, entries: &[Entry], starts: &Starts) -> bool
     requires sorted { IsStrictlySortedBy entry_cmp entries.now }
     requires starts { AreStarts starts.now entries.now }
     ensures { result ≡ list_any (inside probe.now) entries.now }
@@ -101,6 +116,20 @@ pub(crate) fn any_inside(probe: &Probe, entries: &[Entry], starts: &Starts) -> b
         Some(entry) => inside(probe, entry),
         None => false,
     }
+}
+
+/// Whether one of the entries is one that a probe asks for.
+pub(crate) fn any_inside(probe: &Probe, entries: &[Entry], starts: &Starts) -> bool
+    requires sorted { IsStrictlySortedBy entry_cmp entries.now }
+    requires starts { AreStarts starts.now entries.now }
+    ensures { result ≡ list_any (inside probe.now) entries.now }
+{
+    let front = starts.front(probe.column(), entries);
+    let back = starts.back(probe.column(), entries);
+    if front < back && back - front <= SHORT {
+        return any_of(probe, part(entries, front, back));
+    }
+    any_found(probe, entries, starts)
 }
 
 /// The run of the entries that say which values are kept at a path.
