@@ -5,10 +5,10 @@ use Rattle.std.specs.Cmp.Lexicographic.{slice_cmp}
 use Rattle.std.specs.List.Sorted.{IsStrictlySortedBy, IsPartitionedBy, IsPartitionPoint}
 use Rattle.std.specs.declared.cmp.Ordering.TheVariants.{Less, Equal, Greater}
 use Rattle.std.proofs.lemmas.Map.Keys.{le_from_not_gt}
-use Rattle.json_tree.specs.Bytes.{nat_less, nat_greater}
+use Rattle.json_tree.specs.Bytes.{nat_less, nat_equal, nat_greater}
 use Rattle.shred_cols.specs.Entry.{path_of, column_of}
 use Rattle.shred_cols.specs.Order.{entry_cmp}
-use Rattle.shred_cols.specs.Search.{is_before, end_cmp}
+use Rattle.shred_cols.specs.Search.{is_before, is_short_of, end_cmp}
 use Rattle.shred_cols.specs.Starts.{IsStart}
 use Rattle.shred_cols.specs.declared.entry.Entry.{Entry}
 use Rattle.shred_cols.specs.declared.entry.Entry.TheVariants as v
@@ -68,6 +68,13 @@ start_before es column place path bytes low s k d l = before_column column path 
 
 pub end_after : (es : List Entry) (column place : ℕ) (path bytes : List ℕ) (low : Option ℤ) → IsStart (column + 1) es place → (k : ℕ) (d : Entry) → place ≤ k → k < length es → is_before column path low bytes (get_or es k d) ≡ false
 end_after es column place path bytes low s k d l m = past_column column path bytes low (get_or es k d) (omega (arith, s.after k d l m))
+
+-- within the column
+pub in_column : (es : List Entry) (column front back middle : ℕ) (path bytes : List ℕ) (low : Option ℤ) (x : Entry) → IsStart column es front → IsStart (column + 1) es back → front ≤ middle → middle < back → x ≡ get_or es middle x
+    → is_before column path low bytes x ≡ is_short_of path low bytes x
+in_column es column front back middle path bytes low x f b l m at =
+    let same : column ≡ column_of x = omega (arith, f.after middle x l (omega (arith, b.within)), b.before middle x m, ap column_of at) in
+    ap (λ o. is_gt (ordering_then o (ordering_then (slice_cmp nat_cmp path (path_of x)) (end_cmp low bytes x)))) (nat_equal column (column_of x) same)
 
 not_true : (b : Bool) → (b ≡ true → ⊥) → b ≡ false
 not_true false h = refl

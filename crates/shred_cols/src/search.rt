@@ -10,7 +10,7 @@ ghost use Rattle.shred_cols.specs.Probe.{inside, is_kept_at};
 ghost use Rattle.shred_cols.specs.declared.forms.Kept.{Kept};
 ghost use Rattle.shred_cols.specs.declared.probe.Probe.TheVariants as p;
 ghost use Rattle.shred_cols.specs.Starts.{AreStarts};
-ghost use Rattle.shred_cols.specs.Search.{is_before, end_cmp, is_at};
+ghost use Rattle.shred_cols.specs.Search.{is_before, is_short_of, end_cmp, is_at};
 ghost use Rattle.shred_cols.specs.declared.entry.Entry.{Entry};
 
 use crate::entry::Entry;
@@ -19,23 +19,17 @@ use crate::starts::Starts;
 use std::cmp::Ordering;
 
 /// A column of no more entries than this is looked through, which takes less than a search.
-const SHORT: usize = 24;
+const SHORT: usize = 8;
 
-/// Whether an entry stands before a column, a path and a low end.
-fn is_before(column: u8, path: &str, low: Option<i128>, bytes: &[u8], entry: &Entry) -> bool
-    ensures { result ≡ is_before column path.now low bytes.now entry.now }
+/// Whether an entry of the column stands before a path and a low end.
+fn is_short_of(path: &str, low: Option<i128>, bytes: &[u8], entry: &Entry) -> bool
+    ensures { result ≡ is_short_of path.now low bytes.now entry.now }
 {
-    match column.cmp(&entry.column()) {
-        Ordering::Less => return false,
-        Ordering::Equal => {}
-        Ordering::Greater => return true,
-    }
     match path.cmp(entry.path().text()) {
-        Ordering::Less => return false,
-        Ordering::Equal => {}
-        Ordering::Greater => return true,
+        Ordering::Less => false,
+        Ordering::Equal => is_past(low, bytes, entry),
+        Ordering::Greater => true,
     }
-    is_past(low, bytes, entry)
 }
 
 /// Whether an end is past what an entry says.
@@ -67,11 +61,13 @@ fn seek(
     ensures before { (k : ℕ) (d : Entry) → k < result → is_before column path.now end bytes.now (slice_index_or entries.now k d) ≡ true }
     ensures after { (k : ℕ) (d : Entry) → result ≤ k → k < length entries.now → is_before column path.now end bytes.now (slice_index_or entries.now k d) ≡ false }
 {
-    let mut low = starts.front(column, entries);
-    let mut high = starts.back(column, entries);
+    let front = starts.front(column, entries);
+    let back = starts.back(column, entries);
+    let mut low = front;
+    let mut high = back;
     'halves: while low < high {
         let middle = low + (high - low) / 2;
-        if is_before(column, path, end, bytes, &entries[middle]) {
+        if is_short_of(path, end, bytes, &entries[middle]) {
             low = middle + 1;
         } else {
             high = middle;

@@ -5,6 +5,8 @@ use Rattle.shred_cols.proofs.search.seek.Given as goal
 
 abbrev pub invariant-halves : goal.invariant-halves
 invariant-halves l = record {
+  front : l.front ≤ l.low;
+  back : l.high ≤ l.back;
   low : l.low ≤ length l.entries;
   high : l.high ≤ length l.entries;
   before : (k : ℕ) (d : Entry) → k < l.low → is_before l.column l.path l.end l.bytes (get_or l.entries k d) ≡ true;
