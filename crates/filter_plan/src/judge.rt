@@ -260,6 +260,16 @@ fn any_near(steps: &[Step], columns: &Columns, path: &str, run: &[Entry]) -> Ver
     any
 }
 
+// A filter of one condition needs no walk.
+fn judge_root(step: &Step, columns: &Columns) -> Verdict
+    ensures { result ≡ verdict columns.now (step_tree step.now) }
+{
+    match step {
+        Step::Met(probe, exact) => of_probe(columns.meets(probe), *exact),
+        _ => judge(step, columns),
+    }
+}
+
 impl Plan {
     /// The probe that each document that matches meets.
     pub fn probe(&self) -> &Probe
@@ -275,6 +285,6 @@ impl Plan {
     {
         same_decides();
         texts_tell_values();
-        judge(&self.root, columns)
+        judge_root(&self.root, columns)
     }
 }

@@ -4,7 +4,7 @@ use Rattle.std.proofs.lemmas.Bool.{lt-ltb, and_parts}
 use Rattle.json_text.specs.Token.{Token, Placed, begin_object, end_object, begin_array, end_array, name_separator, value_separator, string, number, boolean, null, end}
 use Rattle.json_text.specs.Grammar.{Json, Elements, no_elements, element, Fields, no_fields, field, tokens_of, elements_tokens, more_elements, fields_tokens, more_fields, text_tokens, levels, elements_levels, fields_levels, has_numbers, elements_have_numbers, fields_have_numbers, erased}
 use Rattle.json_text.specs.Grammar as json
-use Rattle.json_text.specs.Faults.{Kind, too_deep}
+use Rattle.json_text.specs.FaultKinds.{Kind, too_deep}
 use Rattle.json_text.specs.Machine.{unfit as unfit_step, Values, Slot, whole, element_of, member_of, Place, want, first_element, after_element, first_name, after_member, complete, State, Step, more, done, fault, at, deliver, opened, step_value, step, End, built, refused, unended, then_run, run, start, texts_with, elements_of, fields_of}
 
 abbrev Pairs : Type 0

@@ -11,7 +11,7 @@ use Rattle.json_text.specs.Grammar.{object_value}
 use Rattle.json_text.specs.Lex.{token_at, tokens_from, tokens}
 use Rattle.json_text.specs.Machine.{Place, Slot, whole, element_of, member_of, want, first_element, after_element, first_name, name_of, colon_of, after_member, complete, State, more, fault, step, built, run, trees, start, deliver, opened}
 use Rattle.json_text.specs.Ahead.{unblanked, scalar_value, IsFirst, IsScalar, IsScalarToken, next_element_place, next_member_place, delivered, GoesOn, IsValue, Closes}
-use Rattle.json_text.specs.Faults.{too_deep}
+use Rattle.json_text.specs.FaultKinds.{too_deep}
 use Rattle.json_text.proofs.Turns.{took_more, took_done}
 
 abbrev Levels : Type 0

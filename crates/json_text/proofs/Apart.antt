@@ -7,7 +7,7 @@ use Rattle.json_text.specs.Grammar.{tree_of, levels, text_tokens}
 use Rattle.json_text.specs.Machine.{start, texts_with}
 use Rattle.json_text.proofs.Written.{json_of, all_numbers, tree_again}
 use Rattle.json_text.proofs.Accepts.{gone, go, accepts_text}
-use Rattle.json_text.proofs.Printed.{text_spells, spelled}
+use Rattle.json_text.proofs.ReadsBack.{text_spells, spelled}
 
 spelled_at : (a : Tree) (n : ℕ) → levels (json_of a) ≤ n → go (texts_with None n) start (text_tokens (json_of a)) ≡ gone (json_of a)
 spelled_at a n h = accepts_text None n (json_of a) h (all_numbers a)

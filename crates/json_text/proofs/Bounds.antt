@@ -5,7 +5,7 @@ use Rattle.std.specs.Prelude.{⊤, IsTrue}
 use Rattle.json_text.specs.Token.{Token, begin_object, end_object, begin_array, end_array, name_separator, value_separator, string, number, boolean, null, end}
 use Rattle.json_text.specs.Grammar.{Json, no_elements, no_fields, levels, elements_levels, fields_levels, has_numbers, elements_have_numbers, fields_have_numbers}
 use Rattle.json_text.specs.Grammar as json
-use Rattle.json_text.specs.Faults.{too_deep, opens}
+use Rattle.json_text.specs.FaultKinds.{too_deep, opens}
 use Rattle.json_text.specs.Machine.{Slot, whole, element_of, member_of, Place, want, first_element, after_element, first_name, name_of, colon_of, after_member, complete, State, Step, more, done, fault, at, deliver, close, step_value, step, start, texts, elements_of, fields_of}
 
 abbrev Pairs : Type 0

@@ -4,7 +4,7 @@ use Rattle.std.proofs.lemmas.Bool.{and_parts}
 use Rattle.std.proofs.lemmas.Bool.Decides.{nat_tests}
 use Rattle.std.specs.List.{flat_map}
 use Rattle.json_text.specs.Text.{after, after_u, after_backslash, after_high, short_escape, code_unit, is_high_half, is_low_half, pair_char, plain, string_at, Piece, unescaped, escape, unit, pair, IsPiece, written, stands_for, ArePieces, IsContent}
-use Rattle.json_text.proofs.Strings.{plain_byte}
+use Rattle.json_text.proofs.StringSteps.{plain_byte}
 
 -- ---- what is written so has this content
 

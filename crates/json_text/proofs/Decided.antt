@@ -7,13 +7,13 @@ use Rattle.json_tree.specs.Tree.{Tree}
 use Rattle.json_text.specs.Token.{end}
 use Rattle.json_text.specs.Lex.{is_blank, token_at, tokens_from, tokens}
 use Rattle.json_text.specs.Grammar.{Reads}
-use Rattle.json_text.specs.Faults.{syntax, too_deep, out_of_range}
+use Rattle.json_text.specs.FaultKinds.{syntax, too_deep, out_of_range}
 use Rattle.json_text.specs.Fault.{IsFault}
 use Rattle.json_text.specs.declared.read.TextFault.{TextFault}
 use Rattle.json_text.specs.declared.read.TextFault.TheVariants.{Syntax, NotUtf8, Number, TooDeep, NoMemory}
 use Rattle.json_text.specs.Machine.{State, Step, more, done, fault, step, End, built, refused, unended, then_run, run, trees, start}
 use Rattle.json_text.proofs.Turns.{end_is_last}
-use Rattle.json_text.proofs.Reading.{reads_from_run, fault_from_run}
+use Rattle.json_text.proofs.RunSpells.{reads_from_run, fault_from_run}
 
 -- ---- a run ends
 

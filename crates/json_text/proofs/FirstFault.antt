@@ -5,7 +5,7 @@ use Rattle.std.specs.Prelude.{⊤, IsTrue}
 use Rattle.json_text.specs.Token.{Token, begin_object, end_object, begin_array, end_array, name_separator, value_separator, string, number, boolean, null, end}
 use Rattle.json_text.specs.Grammar.{Json, no_elements, no_fields, text_tokens, levels, has_numbers, erased}
 use Rattle.json_text.specs.Grammar as json
-use Rattle.json_text.specs.Faults.{syntax, too_deep, out_of_range, opens}
+use Rattle.json_text.specs.FaultKinds.{syntax, too_deep, out_of_range, opens}
 use Rattle.json_text.specs.Machine.{Values, Slot, whole, element_of, member_of, Place, want, first_element, after_element, first_name, name_of, colon_of, after_member, complete, State, Step, more, done, fault, at, deliver, close, opened, step_value, step, texts, texts_with}
 
 abbrev pub Open : Type 0

@@ -16,8 +16,8 @@ use Rattle.json_text.specs.Numeral.{unsigned, numeral, is_numeral_byte}
 use Rattle.json_text.specs.Lex.{is_blank, Read, string_token, number_token, numeral_len, is_letter, word_len, word_token, token_at, tokens_from, tokens}
 use Rattle.json_text.specs.Grammar.{erased}
 use Rattle.json_text.proofs.Lexing.{either, token_ends, token_next}
-use Rattle.json_text.proofs.Strings.{plain_wide, wide_length}
-use Rattle.json_text.proofs.Tokens.{numeral_is_ascii, letter_is_ascii, blank_is_ascii}
+use Rattle.json_text.proofs.StringSteps.{plain_wide, wide_length}
+use Rattle.json_text.proofs.TokenEnds.{numeral_is_ascii, letter_is_ascii, blank_is_ascii}
 
 -- a string token is UTF-8, and a number in range
 abbrev pub Fits : Token → Type 0

@@ -6,7 +6,7 @@ use Rattle.std.specs.Prelude.{⊤}
 use Rattle.json_text.specs.Token.{Token, Placed, number, end}
 use Rattle.json_text.specs.Grammar.{Json, text_tokens, levels, has_numbers, erased}
 use Rattle.json_text.specs.Grammar as json
-use Rattle.json_text.specs.Faults.{Kind, syntax, too_deep, out_of_range, Begins, opens, HasFault, Faultless, FirstFault}
+use Rattle.json_text.specs.FaultKinds.{Kind, syntax, too_deep, out_of_range, Begins, opens, HasFault, Faultless, FirstFault}
 use Rattle.json_text.specs.Machine.{State, Step, more, done, fault, step, End, built, refused, unended, then_run, run, start, texts}
 use Rattle.json_text.proofs.Accepts.{gone, stopped, then_go, go, go_next, accepts_text}
 use Rattle.json_text.proofs.Reached.{Reached, StepReached, reached_at, reached_start, begins_at}

@@ -3,7 +3,7 @@ use Rattle.std.proofs.Common.{◌≡◌, ℕ, suc, ◌+◌, ◌-◌, List, [], �
 use Rattle.json_text.specs.Token.{Token, begin_object, end_object, begin_array, end_array, name_separator, value_separator, string}
 use Rattle.json_text.specs.Grammar.{Json, Elements, no_elements, element, Fields, no_fields, field, tokens_of, elements_tokens, more_elements, fields_tokens, more_fields}
 use Rattle.json_text.specs.Grammar as json
-use Rattle.json_text.specs.Faults.{open_levels}
+use Rattle.json_text.specs.FaultKinds.{open_levels}
 use Rattle.json_text.specs.Machine.{Slot, whole, element_of, member_of, Place, want, first_element, after_element, first_name, name_of, colon_of, after_member, complete, State, elements_of, fields_of}
 use Rattle.json_text.proofs.Reached.{elements_chain, fields_chain, slot_tokens, outer_tokens, place_tokens, SlotFits, OuterFits, Reached}
 

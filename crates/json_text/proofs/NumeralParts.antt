@@ -9,8 +9,8 @@ use Rattle.std.specs.Str.Parse.{digits_value}
 use Rattle.json_tree.specs.Num.{Decimal, units_of}
 use Rattle.json_text.specs.Numeral.{digits, after_digits, is_whole, if_some, fraction_at, whole_digits, signed_digits, exponent_of, decimal_of, unsigned, numeral, AreDigits, IsMinus, IsInt, IsFrac, IsExp, IsNumeral}
 use Rattle.json_text.proofs.Runs.{run_passes}
-use Rattle.json_text.proofs.Numerals.{some_parts}
-use Rattle.json_text.proofs.PrintedNumbers.{StopsAt, run_front, run_rest, no_minus}
+use Rattle.json_text.proofs.NumeralValues.{some_parts}
+use Rattle.json_text.proofs.NumbersReadBack.{RunEnds, run_front, run_rest, no_minus}
 
 -- ---- what is written so spells something
 
@@ -44,13 +44,13 @@ spelt_exponent exp (inr p) =
     let s = spelt_signed p.1 p.2 p.3 p.6 p.7 in
     (s.0, ap exponent_of p.4 ∙ ap (λ b. cond b (signed_digits (p.1 ++ p.2 ∷ p.3)) None) (not_point p.0 p.5).2 ∙ s.1)
 
-exp_stops : (exp : List ℕ) → IsExp exp → StopsAt is_ascii_digit exp
-exp_stops exp (inl e) = subst (StopsAt is_ascii_digit) (sym e) tt
-exp_stops exp (inr p) = subst (StopsAt is_ascii_digit) (sym p.4) (not_point p.0 p.5).1
+exp_stops : (exp : List ℕ) → IsExp exp → RunEnds is_ascii_digit exp
+exp_stops exp (inl e) = subst (RunEnds is_ascii_digit) (sym e) tt
+exp_stops exp (inr p) = subst (RunEnds is_ascii_digit) (sym p.4) (not_point p.0 p.5).1
 
-rest_stops : (frac exp : List ℕ) → IsFrac frac → IsExp exp → StopsAt is_ascii_digit (frac ++ exp)
-rest_stops frac exp (inl e) x = subst (λ l. StopsAt is_ascii_digit (l ++ exp)) (sym e) (exp_stops exp x)
-rest_stops frac exp (inr p) x = subst (λ l. StopsAt is_ascii_digit (l ++ exp)) (sym p.2) refl
+rest_stops : (frac exp : List ℕ) → IsFrac frac → IsExp exp → RunEnds is_ascii_digit (frac ++ exp)
+rest_stops frac exp (inl e) x = subst (λ l. RunEnds is_ascii_digit (l ++ exp)) (sym e) (exp_stops exp x)
+rest_stops frac exp (inr p) x = subst (λ l. RunEnds is_ascii_digit (l ++ exp)) (sym p.2) refl
 
 no_fraction_at : (exp : List ℕ) → IsExp exp → fraction_at exp ≡ Some ([], exp)
 no_fraction_at exp (inl e) = ap fraction_at e ∙ ap (λ l. Some ([], l)) (sym e)

@@ -5,7 +5,7 @@ use Rattle.std.specs.Prelude.{⊤}
 use Rattle.json_text.specs.Token.{Token, begin_object, end_object, begin_array, end_array, name_separator, value_separator, string, number, boolean, null, end}
 use Rattle.json_text.specs.Grammar.{Json, Elements, no_elements, element, Fields, no_fields, field, tokens_of, elements_tokens, more_elements, fields_tokens, more_fields, text_tokens}
 use Rattle.json_text.specs.Grammar as json
-use Rattle.json_text.specs.Faults.{too_deep, Begins}
+use Rattle.json_text.specs.FaultKinds.{too_deep, Begins}
 use Rattle.json_text.specs.Machine.{Values, Slot, whole, element_of, member_of, Place, want, first_element, after_element, first_name, name_of, colon_of, after_member, complete, State, Step, more, done, fault, at, deliver, close, unfit, step_value, step, start, texts_with, elements_of, fields_of}
 
 abbrev Pairs : Type 0

@@ -6,7 +6,7 @@ use Rattle.json_tree.specs.Members.{put_member}
 use Rattle.json_text.specs.Token.{Token, Placed, begin_object, end_object, begin_array, end_array, name_separator, string, number, boolean, null, end}
 use Rattle.json_text.specs.Grammar.{Json, Elements, no_elements, element, Fields, no_fields, field, tree_of, with_fields, object_value}
 use Rattle.json_text.specs.Grammar as json
-use Rattle.json_text.specs.Faults.{too_deep}
+use Rattle.json_text.specs.FaultKinds.{too_deep}
 use Rattle.json_text.specs.Machine.{Slot, whole, element_of, member_of, Place, want, first_element, after_element, first_name, name_of, colon_of, after_member, complete, State, Step, more, done, fault, at, deliver, close, opened, step_value, step, End, built, refused, unended, then_run, run, trees, texts, elements_of, fields_of}
 
 abbrev Pairs : Type 0

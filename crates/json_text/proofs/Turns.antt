@@ -6,7 +6,7 @@ use Rattle.std.specs.List.{prefix_len}
 use Rattle.json_text.specs.Token.{Token, Placed, end}
 use Rattle.json_text.specs.Lex.{is_blank, token_at, tokens_from}
 use Rattle.json_text.specs.Machine.{Values, Slot, Place, want, first_element, after_element, first_name, name_of, colon_of, after_member, complete, State, Step, more, done, fault, step, End, built, refused, then_run, run}
-use Rattle.json_text.specs.Faults.{Kind}
+use Rattle.json_text.specs.FaultKinds.{Kind}
 use Rattle.json_text.proofs.Lexing.{token_ends, blanks_passed, token_next}
 
 abbrev pub front : List ℕ → List ℕ

@@ -1,6 +1,6 @@
 -- The fault of bytes, as the reader answers it.
 use Rattle.std.specs.Prelude.{ℕ, List}
-use Rattle.json_text.specs.Faults.{syntax, too_deep, out_of_range, TextFaultAt, NotUtf8At}
+use Rattle.json_text.specs.FaultKinds.{syntax, too_deep, out_of_range, TextFaultAt, NotUtf8At}
 use Rattle.json_text.specs.declared.read.TextFault.{TextFault}
 use Rattle.json_text.specs.declared.read.TextFault.TheVariants.{Syntax, NotUtf8, Number, TooDeep, NoMemory}
 

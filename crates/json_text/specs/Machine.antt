@@ -6,7 +6,7 @@ use Rattle.json_tree.specs.Members.{put_member}
 use Rattle.json_text.specs.Token.{Token, Placed, begin_object, end_object, begin_array, end_array, name_separator, value_separator, string, number, boolean, null, end}
 use Rattle.json_text.specs.Grammar.{Json, Elements, no_elements, element, Fields, no_fields, field, object_value}
 use Rattle.json_text.specs.Grammar as json
-use Rattle.json_text.specs.Faults.{Kind, syntax, too_deep, out_of_range}
+use Rattle.json_text.specs.FaultKinds.{Kind, syntax, too_deep, out_of_range}
 
 -- Values, as they are built, and how many levels may open. A reader builds trees; the same steps build the text's own structure.
 pub record Values (V : Type 0) : Type 0 where

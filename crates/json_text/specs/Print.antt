@@ -86,15 +86,6 @@ abbrev pub separator : Bool → List ℕ
 separator true = []
 separator false = 44 ∷ []
 
--- what is left to write of a list or an object, whose next part is the first one or not
-abbrev pub rest_of_elements : Bool → Elements → List ℕ
-rest_of_elements true vs = elements_text vs
-rest_of_elements false vs = more_elements vs
-
-abbrev pub rest_of_members : Bool → Members → List ℕ
-rest_of_members true ms = members_text ms
-rest_of_members false ms = more_members ms
-
 -- a count that stops at the end of 64 bits
 abbrev pub capped : ℕ → ℕ
 capped n = min n (2 ^ 64 - 1)

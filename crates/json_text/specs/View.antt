@@ -1,7 +1,7 @@
 -- What the code's types stand for. Only the crate's private clauses cite it.
 use Rattle.json_text.specs.Token as spec
-use Rattle.json_text.specs.declared.lex.Token.{Token}
-use Rattle.json_text.specs.declared.lex.Token.TheVariants.{BeginObject, EndObject, BeginArray, EndArray, NameSeparator, ValueSeparator, String, Number, Boolean, Null, End, Malformed}
+use Rattle.json_text.specs.declared.token.lex.Token.{Token}
+use Rattle.json_text.specs.declared.token.lex.Token.TheVariants.{BeginObject, EndObject, BeginArray, EndArray, NameSeparator, ValueSeparator, String, Number, Boolean, Null, End, Malformed}
 
 abbrev pub token_of : Token → spec.Token
 token_of BeginObject = spec.begin_object

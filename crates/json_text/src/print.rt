@@ -1,182 +1,24 @@
-// Printing.
-ghost use Rattle.std.specs.Prelude.{◌≡◌, ◌==◌, ◌<◌, ◌≤◌, ◌^◌, ℕ, List, ◌∷◌, ◌++◌, [], decimal, OnOk, OnErr, IfOk, IfErr};
-ghost use Rattle.std.specs.List.{flat_map};
-ghost use Rattle.std.specs.Char.{digit_char};
+// Printing values.
+ghost use Rattle.std.specs.Prelude.{◌≡◌, ◌==◌, ◌≤◌, ◌++◌, OnOk, OnErr, IfOk, IfErr};
 ghost use Rattle.std.specs.Str.{IsUtf8};
-ghost use Rattle.std.specs.Fmt.{signed_decimal};
 ghost use Rattle.json_tree.specs.Tree.{Tree, list, object, elements_of, members_of};
 ghost use Rattle.json_tree.specs.View.{tree};
 ghost use Rattle.json_text.specs.Grammar.{Reads};
 ghost use Rattle.json_tree.specs.Writable.{IsWritable, tree_levels};
 ghost use Rattle.json_text.specs.declared.read.TextFault.TheVariants.{NoMemory};
-ghost use Rattle.json_text.specs.Print.{escaped, string_text, padded, trimmed, with_point, magnitude_text, number_text, boolean_text, date_text, separator, text_of, Extends};
+ghost use Rattle.json_text.specs.Print.{boolean_text, separator, text_of, Extends};
 
+mod measure;
+mod number;
+mod text;
+
+use crate::print::number::{print_date, print_number};
+use crate::print::text::print_string;
 use crate::read::TextFault;
-use crate::string::plain_len;
 use json_tree::{Items, Members, Value};
+pub use measure::text_len;
 use std::alloc::{AllocError, Global};
-
-// How many units 1 has.
-const UNIT: u128 = 1_000_000_000_000_000_000;
-
-fn digit_char(digit: u8) -> u8
-    requires { digit < 16 }
-    ensures { result ≡ digit_char digit }
-{
-    if digit < 10 {
-        b'0' + digit
-    } else {
-        b'a' + (digit - 10)
-    }
-}
-
-#[tactic(auto, using(crate::proofs::Kept::kept), unfolding(crate::specs::Print::escaped))]
-fn print_byte(b: u8, out: &mut Vec<u8>) -> Result<(), AllocError>
-    ensures ok { OnOk result (out.new.items ≡ out.old.items ++ escaped b) }
-    ensures kept { OnErr result (Extends out.old.items out.new.items) }
-{
-    match b {
-        b'"' => out.extend_from_slice(b"\\\""),
-        b'\\' => out.extend_from_slice(b"\\\\"),
-        8 => out.extend_from_slice(b"\\b"),
-        9 => out.extend_from_slice(b"\\t"),
-        10 => out.extend_from_slice(b"\\n"),
-        12 => out.extend_from_slice(b"\\f"),
-        13 => out.extend_from_slice(b"\\r"),
-        0..0x20 => {
-            let spelled = [
-                b'\\',
-                b'u',
-                b'0',
-                b'0',
-                digit_char(b / 16),
-                digit_char(b % 16),
-            ];
-            out.extend_from_slice(&spelled)
-        }
-        _ => out.extend_from_slice(&[b]),
-    }
-}
-
-#[tactic(auto, using(crate::proofs::Kept::kept))]
-fn write_content(text: &[u8], out: &mut Vec<u8>) -> Result<(), AllocError>
-    ensures ok { OnOk result (out.new.items ≡ out.old.items ++ flat_map escaped text.now) }
-    ensures kept { OnErr result (Extends out.old.items out.new.items) }
-{
-    let mut rest = text;
-    'parts: loop {
-        let (plain, from) = rest.split_at(plain_len(rest));
-        out.extend_from_slice(plain)?;
-        match from {
-            [] => return Ok(()),
-            [b, after @ ..] => {
-                print_byte(*b, out)?;
-                rest = after;
-            }
-        }
-    }
-}
-
-#[tactic(auto, using(crate::proofs::Kept::kept))]
-fn print_string(text: &str, out: &mut Vec<u8>) -> Result<(), AllocError>
-    ensures ok { OnOk result (out.new.items ≡ out.old.items ++ string_text text.now) }
-    ensures kept { OnErr result (Extends out.old.items out.new.items) }
-{
-    out.push(b'"')?;
-    write_content(text.as_bytes(), out)?;
-    out.push(b'"')?;
-    Ok(())
-}
-
-#[tactic(auto, using(crate::proofs::Prints::digits, crate::proofs::Kept::kept), unfolding(crate::specs::Print::padded))]
-fn print_digits(digits: u32, unit: u64, n: u64, out: &mut Vec<u8>) -> Result<(), AllocError>
-    requires unit { (unit ≡ 10 ^ digits) × (digits ≤ 18) }
-    requires small { n < unit }
-    ensures ok { OnOk result (out.new.items ≡ out.old.items ++ padded digits n) }
-    ensures kept { OnErr result (Extends out.old.items out.new.items) }
-{
-    let mut left = n;
-    let mut unit = unit;
-    let mut k = digits;
-    'digits: while k > 0 {
-        unit /= 10;
-        out.push(b'0' + (left / unit) as u8)?;
-        left %= unit;
-        k -= 1;
-    }
-    Ok(())
-}
-
-#[tactic(auto, using(crate::proofs::Prints::fractions, crate::proofs::Kept::kept))]
-fn print_fraction(n: u64, out: &mut Vec<u8>) -> Result<(), AllocError>
-    requires { n < 10 ^ 18 }
-    ensures ok { OnOk result (out.new.items ≡ out.old.items ++ with_point (trimmed 18 n)) }
-    ensures kept { OnErr result (Extends out.old.items out.new.items) }
-{
-    if n == 0 {
-        return Ok(());
-    }
-    let mut left = n;
-    let mut unit = 1_000_000_000_000_000_000;
-    let mut k = 18;
-    'zeros: while k > 0 && left % 10 == 0 {
-        left /= 10;
-        unit /= 10;
-        k -= 1;
-    }
-    if k == 0 {
-        return Ok(());
-    }
-    out.push(b'.')?;
-    print_digits(k, unit, left, out)?;
-    Ok(())
-}
-
-#[tactic(auto, using(crate::proofs::Kept::kept))]
-fn print_whole(n: u128, out: &mut Vec<u8>) -> Result<(), AllocError>
-    ensures ok { OnOk result (out.new.items ≡ out.old.items ++ decimal n) }
-    ensures kept { OnErr result (Extends out.old.items out.new.items) }
-{
-    let mut buffer = itoa::Buffer::new();
-    if n <= u64::MAX as u128 {
-        return out.extend_from_slice(buffer.format(n as u64).as_bytes());
-    }
-    out.extend_from_slice(buffer.format(n).as_bytes())
-}
-
-#[tactic(auto, using(crate::proofs::Kept::kept))]
-fn print_magnitude(n: u128, out: &mut Vec<u8>) -> Result<(), AllocError>
-    ensures ok { OnOk result (out.new.items ≡ out.old.items ++ magnitude_text n) }
-    ensures kept { OnErr result (Extends out.old.items out.new.items) }
-{
-    print_whole(n / UNIT, out)?;
-    print_fraction((n % UNIT) as u64, out)?;
-    Ok(())
-}
-
-#[tactic(auto, using(crate::proofs::Kept::kept))]
-fn print_number(units: i128, out: &mut Vec<u8>) -> Result<(), AllocError>
-    ensures ok { OnOk result (out.new.items ≡ out.old.items ++ number_text units) }
-    ensures kept { OnErr result (Extends out.old.items out.new.items) }
-{
-    if units < 0 {
-        out.push(b'-')?;
-    }
-    print_magnitude(units.unsigned_abs(), out)?;
-    Ok(())
-}
-
-#[tactic(auto, using(crate::proofs::Kept::kept))]
-fn print_date(date: i64, out: &mut Vec<u8>) -> Result<(), AllocError>
-    ensures ok { OnOk result (out.new.items ≡ out.old.items ++ date_text date) }
-    ensures kept { OnErr result (Extends out.old.items out.new.items) }
-{
-    out.extend_from_slice(b"{\"$date\":")?;
-    let mut buffer = itoa::Buffer::new();
-    out.extend_from_slice(buffer.format(date).as_bytes())?;
-    out.push(b'}')?;
-    Ok(())
-}
+pub use text::print_content;
 
 #[tactic(auto, using(crate::proofs::Kept::kept))]
 fn print_bool(b: bool, out: &mut Vec<u8>) -> Result<(), AllocError>
@@ -204,7 +46,7 @@ fn print_separator(place: usize, out: &mut Vec<u8>) -> Result<(), AllocError>
 }
 
 #[cycle(print)]
-#[tactic(auto, using(crate::proofs::Steps::sizes, crate::proofs::Steps::steps, crate::proofs::Kept::kept))]
+#[tactic(auto, using(crate::proofs::ListSteps::sizes, crate::proofs::ListSteps::steps, crate::proofs::Kept::kept))]
 pub(crate) fn print_tree(value: &Value, out: &mut Vec<u8>) -> Result<(), AllocError>
     ensures ok { OnOk result (out.new.items ≡ out.old.items ++ text_of (tree value.now)) }
     ensures kept { OnErr result (Extends out.old.items out.new.items) }
@@ -221,7 +63,7 @@ pub(crate) fn print_tree(value: &Value, out: &mut Vec<u8>) -> Result<(), AllocEr
 }
 
 #[cycle(print)]
-#[tactic(auto, using(crate::proofs::Steps::sizes, crate::proofs::Steps::steps, crate::proofs::Kept::kept))]
+#[tactic(auto, using(crate::proofs::ListSteps::sizes, crate::proofs::ListSteps::steps, crate::proofs::Kept::kept))]
 fn print_elements(elements: &Items, out: &mut Vec<u8>) -> Result<(), AllocError>
     ensures ok { OnOk result (out.new.items ≡ out.old.items ++ text_of (list (elements_of elements.now))) }
     ensures kept { OnErr result (Extends out.old.items out.new.items) }
@@ -239,7 +81,7 @@ fn print_elements(elements: &Items, out: &mut Vec<u8>) -> Result<(), AllocError>
 }
 
 #[cycle(print)]
-#[tactic(auto, using(crate::proofs::Steps::sizes, crate::proofs::Steps::steps, crate::proofs::Kept::kept))]
+#[tactic(auto, using(crate::proofs::ListSteps::sizes, crate::proofs::ListSteps::steps, crate::proofs::Kept::kept))]
 fn print_members(members: &Members, out: &mut Vec<u8>) -> Result<(), AllocError>
     ensures ok { OnOk result (out.new.items ≡ out.old.items ++ text_of (object (members_of members.now))) }
     ensures kept { OnErr result (Extends out.old.items out.new.items) }
@@ -258,21 +100,8 @@ fn print_members(members: &Members, out: &mut Vec<u8>) -> Result<(), AllocError>
     Ok(())
 }
 
-/// Appends what stands between the quotes of the JSON string with this content.
-pub fn print_content(text: &[u8], out: &mut Vec<u8>) -> Result<(), AllocError>
-    ensures ok { OnOk result (out.new.items ≡ out.old.items ++ flat_map escaped text.now) }
-    ensures unchanged { OnErr result (out.new.items ≡ out.old.items) }
-{
-    let before = out.len();
-    let written = write_content(text, out);
-    if written.is_err() {
-        out.truncate(before);
-    }
-    written
-}
-
 /// Appends the canonical text of the value.
-#[tactic(auto, using(crate::proofs::Printed::utf8_texts))]
+#[tactic(auto, using(crate::proofs::ReadsBack::utf8_texts))]
 pub fn print_value(value: &Value, out: &mut Vec<u8>) -> Result<(), TextFault>
     ensures ok { OnOk result (out.new.items ≡ out.old.items ++ text_of (tree value.now)) }
     ensures err { IfErr result (λ e. e ≡ NoMemory) }

@@ -1,4 +1,4 @@
-// Reading a value.
+// Reading a value from bytes, or the first fault of these.
 ghost use Rattle.std.specs.Prelude.{◌≡◌, ◌≤◌, ◌⊎◌, ℕ, List, IfOk, IfErr};
 ghost use Rattle.json_tree.specs.Tree.{Tree};
 ghost use Rattle.json_tree.specs.View.{tree};
@@ -9,12 +9,15 @@ ghost use Rattle.json_text.specs.declared.read.TextFault.{TextFault};
 ghost use Rattle.json_text.specs.declared.read.TextFault.TheVariants.{NoMemory};
 ghost use Rattle.json_text.specs.Lex.{tokens};
 ghost use Rattle.json_text.specs.Machine as machine;
-ghost use Rattle.json_text.specs.Builds.{Builds, IsFor};
+ghost use Rattle.json_text.specs.Outcome.{Builds, IsFor};
 
-use crate::builder::{Builder, Kind, Refusal, Step};
-use crate::chars::after_blanks;
-use crate::lex::next_token;
-use crate::quick::whole_value_of;
+mod builder;
+mod quick;
+
+use crate::read::builder::{Builder, Kind, Refusal, Step};
+use crate::read::quick::whole_value_of;
+use crate::token::chars::after_blanks;
+use crate::token::lex::next_token;
 use json_tree::{TreeFault, Value};
 use std::alloc::{AllocError, Global};
 use thiserror::Error;

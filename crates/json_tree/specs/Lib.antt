@@ -15,3 +15,6 @@ pub mod RoundTrips
 pub mod Sizes
 pub mod Bytes
 pub mod Same
+pub mod Cut
+pub mod Rounded
+pub mod DigitLists

@@ -3,6 +3,7 @@
 
 mod builder;
 mod decimal;
+mod digits;
 mod doc;
 mod fault;
 mod id;
@@ -16,6 +17,7 @@ mod value;
 
 pub use builder::ObjectBuilder;
 pub use decimal::scale;
+pub use digits::digits_units;
 pub use doc::Doc;
 pub use fault::TreeFault;
 pub use id::DocId;

@@ -349,6 +349,7 @@ impl Value {
     }
 
     /// The same value, in memory of its own.
+    #[inline(always)]
     #[cycle(copy)]
     pub fn try_copy(&self, alloc: Global) -> Result<Value, TreeFault>
         ensures ok { IfOk result (λ v. v ≡ self.now) }
@@ -438,6 +439,7 @@ fn same_pair(a: &(Text, Value), b: &(Text, Value)) -> bool
 
 impl Items {
     /// The same value, in memory of its own.
+    #[inline(never)]
     #[cycle(copy)]
     pub fn try_copy(&self, alloc: Global) -> Result<Items, TreeFault>
         ensures ok { IfOk result (λ v. v ≡ self.now) }
@@ -454,6 +456,7 @@ impl Items {
 
 impl Members {
     /// The same value, in memory of its own.
+    #[inline(never)]
     #[cycle(copy)]
     pub fn try_copy(&self, alloc: Global) -> Result<Members, TreeFault>
         ensures ok { IfOk result (λ v. v ≡ self.now) }

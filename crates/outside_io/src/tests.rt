@@ -168,7 +168,11 @@ fn a_whole_piece_is_written(rt: HostRuntime) -> Result<(), Fail> {
 
 #[test]
 fn a_listed_clock_gives_its_times(rt: HostRuntime) -> Result<(), Fail> {
-    let rows: [(&[i64], [i64; 3]); 3] = [(&[], [0, 0, 0]), (&[5], [5, 5, 5]), (&[7, -2], [7, -2, -2])];
+    let rows: [(&[i64], [i64; 3]); 3] = [
+        (&[], [0, 0, 0]),
+        (&[5], [5, 5, 5]),
+        (&[7, -2], [7, -2, -2]),
+    ];
     for (listed, wanted) in rows {
         let mut clock = ListClock::new(Vec::from_slice(rt.alloc(), listed)?);
         for time in wanted {

@@ -11,4 +11,6 @@ pub mod Stored
 pub mod Ids
 pub mod Headed
 pub mod Seeking
+pub mod Started
+pub mod Scanned
 pub mod Runs

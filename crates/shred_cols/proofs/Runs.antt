@@ -83,7 +83,7 @@ take_any t [] (suc b) h = refl
 take_any t (x ∷ xs) zero h = sym (any_false t (x ∷ xs) (λ k d l. h k d (omega arith) l))
 take_any t (x ∷ xs) (suc b) h = ap (λ r. t x || r) (take_any t xs b (λ k d l m. h (suc k) d (omega arith) (omega arith)))
 
-cut_any : (t : Entry → Bool) (es : List Entry) (a n : ℕ) → ((k : ℕ) (d : Entry) → k < a → t (get_or es k d) ≡ false) → ((k : ℕ) (d : Entry) → a + n ≤ k → k < length es → t (get_or es k d) ≡ false) → a ≤ length es
+pub cut_any : (t : Entry → Bool) (es : List Entry) (a n : ℕ) → ((k : ℕ) (d : Entry) → k < a → t (get_or es k d) ≡ false) → ((k : ℕ) (d : Entry) → a + n ≤ k → k < length es → t (get_or es k d) ≡ false) → a ≤ length es
     → list_any t (take n (drop a es)) ≡ list_any t es
 cut_any t es zero n low high within = take_any t es n (λ k d l m. high k d (omega arith) m)
 cut_any t [] (suc a) n low high within = absurd (omega arith)

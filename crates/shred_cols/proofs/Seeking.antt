@@ -53,7 +53,7 @@ front_less Less x y h f = refl
 front_less Equal x y h f = f h
 front_less Greater x y h f = absurd (Prim.cc h)
 
-not_greater : (a x : Ordering) → ordering_then a x ≡ Less → is_gt a ≡ false
+pub not_greater : (a x : Ordering) → ordering_then a x ≡ Less → is_gt a ≡ false
 not_greater Less x h = refl
 not_greater Equal x h = refl
 not_greater Greater x h = absurd (Prim.cc h)

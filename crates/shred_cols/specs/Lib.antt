@@ -9,3 +9,4 @@ pub mod Row
 pub mod Beginning
 pub mod Rows
 pub mod Search
+pub mod Starts

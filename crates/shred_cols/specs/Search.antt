@@ -60,5 +60,9 @@ end_cmp (Some n) bytes e = ordering_then (int_cmp n (number_of e)) (slice_cmp na
 abbrev pub is_before : ℕ → List ℕ → Option ℤ → List ℕ → Entry → Bool
 is_before column path low bytes e = is_gt (ordering_then (nat_cmp column (column_of e)) (ordering_then (slice_cmp nat_cmp path (path_of e)) (end_cmp low bytes e)))
 
+-- the same of an entry of the column
+abbrev pub is_short_of : List ℕ → Option ℤ → List ℕ → Entry → Bool
+is_short_of path low bytes e = is_gt (ordering_then (slice_cmp nat_cmp path (path_of e)) (end_cmp low bytes e))
+
 abbrev pub is_at : Entry → ℕ → List ℕ → Bool
 is_at e column path = (column_of e == column) && bytes_eq (path_of e) path

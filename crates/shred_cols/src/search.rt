@@ -9,28 +9,27 @@ ghost use Rattle.shred_cols.specs.Order.{entry_cmp};
 ghost use Rattle.shred_cols.specs.Probe.{inside, is_kept_at};
 ghost use Rattle.shred_cols.specs.declared.forms.Kept.{Kept};
 ghost use Rattle.shred_cols.specs.declared.probe.Probe.TheVariants as p;
-ghost use Rattle.shred_cols.specs.Search.{is_before, end_cmp, is_at};
+ghost use Rattle.shred_cols.specs.Starts.{AreStarts};
+ghost use Rattle.shred_cols.specs.Search.{is_before, is_short_of, end_cmp, is_at};
 ghost use Rattle.shred_cols.specs.declared.entry.Entry.{Entry};
 
 use crate::entry::Entry;
 use crate::probe::{Probe, inside};
+use crate::starts::Starts;
 use std::cmp::Ordering;
 
-/// Whether an entry stands before a column, a path and a low end.
-fn is_before(column: u8, path: &str, low: Option<i128>, bytes: &[u8], entry: &Entry) -> bool
-    ensures { result ≡ is_before column path.now low bytes.now entry.now }
+/// A column of no more entries than this is looked through, which takes less than a search.
+const SHORT: usize = 8;
+
+/// Whether an entry of the column stands before a path and a low end.
+fn is_short_of(path: &str, low: Option<i128>, bytes: &[u8], entry: &Entry) -> bool
+    ensures { result ≡ is_short_of path.now low bytes.now entry.now }
 {
-    match column.cmp(&entry.column()) {
-        Ordering::Less => return false,
-        Ordering::Equal => {}
-        Ordering::Greater => return true,
-    }
     match path.cmp(entry.path().text()) {
-        Ordering::Less => return false,
-        Ordering::Equal => {}
-        Ordering::Greater => return true,
+        Ordering::Less => false,
+        Ordering::Equal => is_past(low, bytes, entry),
+        Ordering::Greater => true,
     }
-    is_past(low, bytes, entry)
 }
 
 /// Whether an end is past what an entry says.
@@ -48,13 +47,33 @@ fn is_past(end: Option<i128>, bytes: &[u8], entry: &Entry) -> bool
 }
 
 /// The place of the first entry that isn't before a column, a path and a low end.
-fn seek(entries: &[Entry], column: u8, path: &str, low: Option<i128>, bytes: &[u8]) -> usize
-    requires { IsStrictlySortedBy entry_cmp entries.now }
+fn seek(
+    entries: &[Entry],
+    starts: &Starts,
+    column: u8,
+    path: &str,
+    end: Option<i128>,
+    bytes: &[u8],
+) -> usize
+    requires sorted { IsStrictlySortedBy entry_cmp entries.now }
+    requires starts { AreStarts starts.now entries.now }
     ensures within { result ≤ length entries.now }
-    ensures before { (k : ℕ) (d : Entry) → k < result → is_before column path.now low bytes.now (slice_index_or entries.now k d) ≡ true }
-    ensures after { (k : ℕ) (d : Entry) → result ≤ k → k < length entries.now → is_before column path.now low bytes.now (slice_index_or entries.now k d) ≡ false }
+    ensures before { (k : ℕ) (d : Entry) → k < result → is_before column path.now end bytes.now (slice_index_or entries.now k d) ≡ true }
+    ensures after { (k : ℕ) (d : Entry) → result ≤ k → k < length entries.now → is_before column path.now end bytes.now (slice_index_or entries.now k d) ≡ false }
 {
-    entries.partition_point(|e| is_before(column, path, low, bytes, e))
+    let front = starts.front(column, entries);
+    let back = starts.back(column, entries);
+    let mut low = front;
+    let mut high = back;
+    'halves: while low < high {
+        let middle = low + (high - low) / 2;
+        if is_short_of(path, end, bytes, &entries[middle]) {
+            low = middle + 1;
+        } else {
+            high = middle;
+        }
+    }
+    low
 }
 
 fn entry_in(entries: &[Entry], place: usize) -> Option<&Entry>
@@ -63,13 +82,27 @@ fn entry_in(entries: &[Entry], place: usize) -> Option<&Entry>
     entries.get(place)
 }
 
-/// Whether one of the entries is one that a probe asks for.
-pub(crate) fn any_inside(probe: &Probe, entries: &[Entry]) -> bool
-    requires { IsStrictlySortedBy entry_cmp entries.now }
+/// Whether an entry of a run is one that a probe asks for.
+fn any_of(probe: &Probe, run: &[Entry]) -> bool
+    ensures { result ≡ list_any (inside probe.now) run.now }
+{
+    for entry in run {
+        if inside(probe, entry) {
+            return true;
+        }
+    }
+    false
+}
+
+/// The same of all entries, by a search.
+fn any_found(probe: &Probe, entries: &[Entry], starts: &Starts) -> bool
+    requires sorted { IsStrictlySortedBy entry_cmp entries.now }
+    requires starts { AreStarts starts.now entries.now }
     ensures { result ≡ list_any (inside probe.now) entries.now }
 {
     let place = seek(
         entries,
+        starts,
         probe.column(),
         probe.path_text(),
         probe.low_number(),
@@ -81,14 +114,29 @@ pub(crate) fn any_inside(probe: &Probe, entries: &[Entry]) -> bool
     }
 }
 
+/// Whether one of the entries is one that a probe asks for.
+pub(crate) fn any_inside(probe: &Probe, entries: &[Entry], starts: &Starts) -> bool
+    requires sorted { IsStrictlySortedBy entry_cmp entries.now }
+    requires starts { AreStarts starts.now entries.now }
+    ensures { result ≡ list_any (inside probe.now) entries.now }
+{
+    let front = starts.front(probe.column(), entries);
+    let back = starts.back(probe.column(), entries);
+    if front < back && back - front <= SHORT {
+        return any_of(probe, part(entries, front, back));
+    }
+    any_found(probe, entries, starts)
+}
+
 /// The run of the entries that say which values are kept at a path.
-pub(crate) fn kept_at<'a>(entries: &'a [Entry], path: &str) -> &'a [Entry]
-    requires { IsStrictlySortedBy entry_cmp entries.now }
+pub(crate) fn kept_at<'a>(entries: &'a [Entry], starts: &Starts, path: &str) -> &'a [Entry]
+    requires sorted { IsStrictlySortedBy entry_cmp entries.now }
+    requires starts { AreStarts starts.now entries.now }
     ensures asked { (k : Kept) → list_any (inside (p.Has path.now k)) result.now ≡ list_any (inside (p.Has path.now k)) entries.now }
     ensures only { list_all (is_kept_at path.now) result.now ≡ true }
 {
-    let low = seek(entries, 3, path, None, &[]);
-    let high = seek(entries, 3, path, Some(2), &[]);
+    let low = seek(entries, starts, 3, path, None, &[]);
+    let high = seek(entries, starts, 3, path, Some(2), &[]);
     part(entries, low, high)
 }
 
@@ -100,12 +148,13 @@ fn part(entries: &[Entry], low: usize, high: usize) -> &[Entry]
 }
 
 /// An entry of a column and a path.
-fn entry_at<'a>(entries: &'a [Entry], column: u8, path: &str) -> Option<&'a Entry>
-    requires { IsStrictlySortedBy entry_cmp entries.now }
+fn entry_at<'a>(entries: &'a [Entry], starts: &Starts, column: u8, path: &str) -> Option<&'a Entry>
+    requires sorted { IsStrictlySortedBy entry_cmp entries.now }
+    requires starts { AreStarts starts.now entries.now }
     ensures found { IfSome result (λ e. Contains entries.now e.now × (path_of e.now ≡ path.now) × (column_of e.now ≡ column)) }
     ensures none { IfNone result ((e : Entry) → Contains entries.now e → path_of e ≡ path.now → column_of e ≢ column) }
 {
-    let place = seek(entries, column, path, None, &[]);
+    let place = seek(entries, starts, column, path, None, &[]);
     let Some(entry) = entry_in(entries, place) else {
         return None;
     };
@@ -123,13 +172,14 @@ fn is_at(entry: &Entry, column: u8, path: &str) -> bool
 }
 
 /// The entry that tells the sort key of a path.
-pub(crate) fn find_key<'a>(entries: &'a [Entry], path: &str) -> Option<&'a Entry>
-    requires { IsStrictlySortedBy entry_cmp entries.now }
+pub(crate) fn find_key<'a>(entries: &'a [Entry], starts: &Starts, path: &str) -> Option<&'a Entry>
+    requires sorted { IsStrictlySortedBy entry_cmp entries.now }
+    requires starts { AreStarts starts.now entries.now }
     ensures found { IfSome result (λ e. Contains entries.now e.now × (path_of e.now ≡ path.now) × (4 ≤ column_of e.now)) }
     ensures none { IfNone result ((e : Entry) → Contains entries.now e → path_of e ≡ path.now → column_of e < 4) }
 {
     for column in 4..9 {
-        if let Some(entry) = entry_at(entries, column, path) {
+        if let Some(entry) = entry_at(entries, starts, column, path) {
             return Some(entry);
         }
     }

@@ -1,5 +1,5 @@
 use Rattle.std.proofs.Common.{rules, arith, sym}
-use Rattle.json_text.proofs.Steps.{tree_falls, pair_falls, elements_more, members_more}
+use Rattle.json_text.proofs.ListSteps.{tree_falls, pair_falls, elements_more, members_more}
 use Rattle.json_text.proofs.Kept.{extends-more, extends-on, extends-two, extends-four}
 use Rattle.json_text.proofs.print.+print.Goals as goal
 

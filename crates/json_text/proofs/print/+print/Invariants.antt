@@ -1,7 +1,8 @@
 use Rattle.std.proofs.Common.{◌≡◌, ◌∷◌, [], ◌++◌, drop, ◌+◌, ◌*◌, ◌==◌}
 use Rattle.json_tree.specs.Tree.{list, object, elements_of, members_of, tree_size, trees_size, pairs_size}
 use Rattle.json_tree.specs.View.{tree}
-use Rattle.json_text.specs.Print.{rest_of_elements, rest_of_members, text_of, Extends}
+use Rattle.json_text.proofs.ListSteps.{rest_of_elements, rest_of_members}
+use Rattle.json_text.specs.Print.{text_of, Extends}
 use Rattle.json_text.proofs.print.+print.Given as goal
 
 abbrev pub decreases-print_tree : goal.decreases-print_tree

@@ -1,4 +1,4 @@
-use Rattle.json_text.proofs.Printed.{reads_back}
+use Rattle.json_text.proofs.ReadsBack.{reads_back}
 use Rattle.json_text.proofs.print.reads_back.Goals as goal
 
 pub returns : goal.returns

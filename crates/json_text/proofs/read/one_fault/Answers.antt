@@ -1,4 +1,4 @@
-use Rattle.json_text.proofs.Readings.{one}
+use Rattle.json_text.proofs.AnswerSays.{one}
 use Rattle.json_text.proofs.read.one_fault.Goals as goal
 
 pub returns : goal.returns

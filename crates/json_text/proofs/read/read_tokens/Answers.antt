@@ -6,8 +6,8 @@ use Rattle.json_tree.specs.View.{tree}
 use Rattle.json_text.specs.Lex.{is_blank, tokens_from, token_at}
 use Rattle.json_text.specs.Machine.{run, step, trees, refused}
 use Rattle.json_text.specs.View.{token_of}
-use Rattle.json_text.specs.Build.{state_of, Makes}
-use Rattle.json_text.proofs.Readings.{refused_at}
+use Rattle.json_text.specs.BuilderState.{state_of, Makes}
+use Rattle.json_text.proofs.AnswerSays.{refused_at}
 use Rattle.json_text.proofs.Turns.{front, took_more, took_done, took_fault}
 use Rattle.json_text.proofs.read.read_tokens.Goals as goal
 use Rattle.json_text.proofs.read.read_tokens.Goals.{After-take, In-More}

@@ -1,8 +1,8 @@
 use Rattle.std.proofs.Common.{subst}
 use Rattle.json_text.specs.Lex.{tokens}
-use Rattle.json_text.specs.Builds.{Builds}
+use Rattle.json_text.specs.Outcome.{Builds}
 use Rattle.json_text.specs.Machine.{run, trees, start}
-use Rattle.json_text.proofs.Readings.{reads, writable, low, refuses}
+use Rattle.json_text.proofs.AnswerSays.{reads, writable, low, refuses}
 use Rattle.json_text.proofs.read.read_value.Goals as goal
 
 pub returns-in-Ok-clause-reads : goal.returns-in-Ok-clause-reads

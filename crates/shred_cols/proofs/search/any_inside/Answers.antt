@@ -1,16 +1,13 @@
-use Rattle.std.proofs.Common.{◌∙◌}
-use Rattle.shred_cols.proofs.Seeking.{found_for, one_asked, none_asked, got, past_all}
+use Rattle.std.proofs.Common.{◌+◌, ◌∙◌, sym, ap, subst}
+use Rattle.std.specs.List.{list_any}
+use Rattle.shred_cols.specs.Probe.{inside}
+use Rattle.shred_cols.specs.Starts.{IsStart}
+use Rattle.shred_cols.proofs.Scanned.{run_asked}
 use Rattle.shred_cols.proofs.search.any_inside.Goals as goal
 
-pub returns-in-Some : goal.returns-in-Some
-returns-in-Some c =
+pub returns-then-back-front-le-SHORT : goal.returns-then-back-front-le-SHORT
+returns-then-back-front-le-SHORT c =
     let es = c.args.entries.now in
-    let f = found_for c.args.probe.now es c.seek-place.result c.column.result c.path_text.result.now c.low_bytes.result.now c.low_number.result c.column.ensures c.path_text.ensures c.low_number.ensures c.low_bytes.ensures c.seek-place.ensures.within c.seek-place.ensures.before c.seek-place.ensures.after in
-    let g = got es c.seek-place.result c.in-Some.entry.now c.in-Some.ensures in
-    c.inside.ensures ∙ one_asked c.args.probe.now es c.seek-place.result c.in-Some.entry.now c.requires f g.0 g.1
-
-pub returns-in-None : goal.returns-in-None
-returns-in-None c =
-    let es = c.args.entries.now in
-    let f = found_for c.args.probe.now es c.seek-place.result c.column.result c.path_text.result.now c.low_bytes.result.now c.low_number.result c.column.ensures c.path_text.ensures c.low_number.ensures c.low_bytes.ensures c.seek-place.ensures.within c.seek-place.ensures.before c.seek-place.ensures.after in
-    none_asked c.args.probe.now es c.seek-place.result f (past_all es c.seek-place.result c.in-None.ensures)
+    let back = subst (λ n. IsStart (n + 1) es c.back-back.result) (c.column-2.ensures ∙ sym c.column.ensures) c.back-back.ensures in
+    c.any_of.ensures ∙ ap (list_any (inside c.args.probe.now)) c.part.ensures
+    ∙ run_asked c.args.probe.now es c.column.result c.front-front.result c.back-back.result c.column.ensures c.front-front.ensures back c.if-front-back.true

@@ -20,4 +20,4 @@ returns-clause-none c =
     let es = c.args.entries.now in
     let f : Found es c.seek-place.result (is_before c.args.column c.args.path.now None []) = record { within = c.seek-place.ensures.within; before = c.seek-place.ensures.before; after = c.seek-place.ensures.after } in
     let g = got es c.seek-place.result c.in-Some.entry.now c.in-Some.ensures in
-    other_entry es c.seek-place.result c.args.column c.args.path.now c.in-Some.entry.now c.requires f g.0 g.1 (sym c.is_at.ensures ∙ c.if-is_at.false)
+    other_entry es c.seek-place.result c.args.column c.args.path.now c.in-Some.entry.now c.requires.sorted f g.0 g.1 (sym c.is_at.ensures ∙ c.if-is_at.false)

@@ -1,15 +1,29 @@
-use Rattle.std.proofs.Common.{rules, arith}
-use Rattle.std.proofs.lemmas.List.Sorted.{IsPartitionPoint-from_clause}
-use Rattle.shred_cols.specs.Search.{is_before}
-use Rattle.shred_cols.proofs.Seeking.{parted}
+use Rattle.std.proofs.Common.{◌+◌, ◌-◌, ◌/◌, arith, sym, ◌∙◌}
+use Rattle.shred_cols.proofs.Started.{halved_before, halved_after, in_column}
 use Rattle.shred_cols.proofs.search.seek.Goals as goal
 
-pub returns-clause-before : goal.returns-clause-before
-returns-clause-before c =
-    let point = IsPartitionPoint-from_clause (λ e. is_before c.args.column c.args.path.now c.args.low c.args.bytes.now e) _ _ c.partition_point.ensures.partitioned (parted c.args.entries.now c.args.column c.args.path.now c.args.bytes.now c.args.low c.requires) (λ a r q k. search rules) in
-    λ k d h. point.0 k d (omega arith) h
+pub halves-preserved-then-is_short_of : goal.halves-preserved-then-is_short_of
+halves-preserved-then-is_short_of c =
+    let middle = c.halves.low + (c.halves.high - c.halves.low) / 2 in
+    let within = in_column c.args.entries.now c.args.column c.front-front.result c.back-back.result middle c.args.path.now c.args.bytes.now c.args.end c.index-entries-middle.result c.front-front.ensures c.back-back.ensures (omega (arith, c.halves.invariant.front)) (omega (arith, c.halves-test.true, c.halves.invariant.back)) c.index-entries-middle.is in
+    record {
+      front = omega (arith, c.halves.invariant.front);
+      back = c.halves.invariant.back;
+      low = omega (arith, c.halves-test.true, c.halves.invariant.high);
+      high = c.halves.invariant.high;
+      before = halved_before c.args.entries.now c.args.column middle c.args.path.now c.args.bytes.now c.args.end c.index-entries-middle.result c.requires.sorted (omega (arith, c.halves-test.true, c.halves.invariant.high)) c.index-entries-middle.is (within ∙ sym c.is_short_of.ensures ∙ c.if-is_short_of.true);
+      after = c.halves.invariant.after;
+    }
 
-pub returns-clause-after : goal.returns-clause-after
-returns-clause-after c =
-    let point = IsPartitionPoint-from_clause (λ e. is_before c.args.column c.args.path.now c.args.low c.args.bytes.now e) _ _ c.partition_point.ensures.partitioned (parted c.args.entries.now c.args.column c.args.path.now c.args.bytes.now c.args.low c.requires) (λ a r q k. search rules) in
-    λ k d h l. point.1 k d h l
+pub halves-preserved : goal.halves-preserved
+halves-preserved c =
+    let middle = c.halves.low + (c.halves.high - c.halves.low) / 2 in
+    let within = in_column c.args.entries.now c.args.column c.front-front.result c.back-back.result middle c.args.path.now c.args.bytes.now c.args.end c.index-entries-middle.result c.front-front.ensures c.back-back.ensures (omega (arith, c.halves.invariant.front)) (omega (arith, c.halves-test.true, c.halves.invariant.back)) c.index-entries-middle.is in
+    record {
+      front = c.halves.invariant.front;
+      back = omega (arith, c.halves-test.true, c.halves.invariant.back);
+      low = c.halves.invariant.low;
+      high = omega (arith, c.halves-test.true, c.halves.invariant.high);
+      before = c.halves.invariant.before;
+      after = halved_after c.args.entries.now c.args.column middle c.args.path.now c.args.bytes.now c.args.end c.index-entries-middle.result c.requires.sorted (omega (arith, c.halves-test.true, c.halves.invariant.high)) c.index-entries-middle.is (within ∙ sym c.is_short_of.ensures ∙ c.if-is_short_of.false);
+    }

@@ -1,8 +1,0 @@
-use Rattle.std.proofs.Common.{◌∙◌, ap}
-use Rattle.json_text.proofs.Tokens.{run_boundary, numeral_is_ascii}
-use Rattle.json_text.specs.Numeral.{is_numeral_byte}
-use Rattle.std.specs.List.{prefix_len}
-use Rattle.json_text.proofs.lex.numeral_token.Goals as goal
-
-pub range_from-requires : goal.range_from-requires
-range_from-requires c = run_boundary is_numeral_byte c.args.text.now c.numeral_len-len.result numeral_is_ascii (c.numeral_len-len.ensures ∙ ap (prefix_len is_numeral_byte) c.as_bytes.ensures.value) c.utf8.text

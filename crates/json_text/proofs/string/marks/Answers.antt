@@ -1,5 +1,0 @@
-use Rattle.json_text.proofs.Blocks.{block_marks}
-use Rattle.json_text.proofs.string.marks.Goals as goal
-
-pub returns : goal.returns
-returns c = block_marks c.args.block c.requires
