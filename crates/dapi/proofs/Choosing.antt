@@ -1,5 +1,5 @@
 -- Options, and what they choose.
-use Rattle.std.proofs.Common.{◌≡◌, ◌≤◌, ◌<◌, ◌+◌, ◌++◌, ◌∷◌, [], ℕ, List, IsTrue, Option, Some, None, length, get_or, map, take, drop, refl, sym, ◌∙◌, ap, subst, arith, codes, length-append, append_assoc}
+use Rattle.std.proofs.Common.{◌≡◌, ◌≤◌, ◌<◌, ◌+◌, ◌++◌, ◌∷◌, [], ℕ, List, IsTrue, Option, Some, None, length, get_or, map, take, drop, refl, sym, ◌∙◌, ap, subst, arith, codes, length-append}
 use Rattle.std.proofs.lemmas.List.{map-append, drop_more, take-append-drop}
 use Rattle.std.proofs.Math.Seq.{take-add}
 use Rattle.std.specs.List.{AllByRecursion as Each}
@@ -136,14 +136,14 @@ empty_keyspace (Some name) h = absurd (omega arith)
 allowed_here : (kept : Choices) (chosen : List Choice) (c : Choice) (more : List Choice) → keyspaces_in chosen ≡ kept_keyspace kept.keyspace → collections_in chosen ≡ kept.collections.items → AreChoices (chosen ++ c ∷ more) → Allows c kept
 allowed_here kept chosen (of_keyspace name) more keyspaces collections are =
     let all : length (keyspaces_in (chosen ++ of_keyspace name ∷ more)) ≡ length (keyspaces_in chosen) + length (name ∷ keyspaces_in more) =
-        ap length (keyspaces-append chosen (of_keyspace name ∷ more)) ∙ length-append (keyspaces_in chosen) (name ∷ keyspaces_in more) in
+    ap length (keyspaces-append chosen (of_keyspace name ∷ more)) ∙ length-append (keyspaces_in chosen) (name ∷ keyspaces_in more) in
     let here : length (name ∷ keyspaces_in more) ≡ length (keyspaces_in more) + 1 = omega arith in
     let once : length (keyspaces_in (chosen ++ of_keyspace name ∷ more)) ≤ 1 = are.once in
     let none : length (keyspaces_in chosen) < 1 = omega (arith, all, here, once) in
     (named_here chosen (of_keyspace name) more are.named, empty_keyspace kept.keyspace (subst (λ (xs : List (List ℕ)). length xs < 1) keyspaces none))
 allowed_here kept chosen (of_collection name) more keyspaces collections are =
     let all : length (collections_in (chosen ++ of_collection name ∷ more)) ≡ length (collections_in chosen) + length (name ∷ collections_in more) =
-        ap length (collections-append chosen (of_collection name ∷ more)) ∙ length-append (collections_in chosen) (name ∷ collections_in more) in
+    ap length (collections-append chosen (of_collection name ∷ more)) ∙ length-append (collections_in chosen) (name ∷ collections_in more) in
     let here : length (name ∷ collections_in more) ≡ length (collections_in more) + 1 = omega arith in
     let few : length (collections_in (chosen ++ of_collection name ∷ more)) ≤ 100 = are.few in
     let room : length (collections_in chosen) < 100 = omega (arith, all, here, few) in

@@ -1,10 +1,10 @@
 -- What the program's call answers, by how its run ended.
-use Rattle.std.proofs.Common.{◌≡◌, ◌≤◌, ◌<◌, ◌^◌, ◌⊎◌, [], ◌∷◌, ℕ, ℤ, List, Option, Some, None, IsTrue, true, false, refl, sym, ◌∙◌, ap, subst, arith, inl, inr, codes}
+use Rattle.std.proofs.Common.{◌≡◌, ◌≤◌, ◌<◌, ◌^◌, ◌⊎◌, [], ℕ, ℤ, List, Option, Some, None, refl, sym, ◌∙◌, ap, subst, arith, inl, inr, codes}
 use Rattle.std.specs.Option.{option_map, ForSome}
-use Rattle.outside_io.specs.Causes.{Rose, Rose-earlier, Rose-later}
-use Rattle.outside_io.specs.Told.{Reading, Writing, IsHindered, then_left-nil}
+use Rattle.outside_io.specs.Causes.{Rose}
+use Rattle.outside_io.specs.Told.{Reading, Writing}
 use Rattle.col_keeper.specs.Tables.{Tables}
-use Rattle.store_core.specs.State.{State, start_of, tables_of}
+use Rattle.store_core.specs.State.{start_of, tables_of}
 use Rattle.store_core.specs.Journal.{replay}
 use Rattle.cmd_tasks.specs.declared.trace.Trace.{Trace}
 use Rattle.store_core.specs.Store.{Stored}
@@ -12,19 +12,17 @@ use Rattle.store_core.specs.Opening.{opened_with, would_live, keeper_in, Refuses
 use Rattle.store_core.specs.declared.entry.Entry.{Entry}
 use Rattle.store_core.specs.declared.open.OpenFault.{OpenFault}
 use Rattle.store_core.specs.declared.open.OpenFault.TheVariants as opens
-use Rattle.api_serve.specs.Session.{Serving}
-use Rattle.api_serve.specs.Run.{ServesLines, ServesInput, ServesWholeLines, ServesBefore, ServesFirst, ServesCut, HasRead}
-use Rattle.api_serve.specs.Ends.{EndsRun, IsWriteFault}
+use Rattle.api_serve.specs.Run.{ServesLines, ServesInput, ServesWholeLines, ServesBefore, ServesFirst, ServesCut}
+use Rattle.api_serve.specs.Ends.{EndsRun}
 use Rattle.api_serve.specs.declared.run.RunHow.{RunHow}
 use Rattle.api_serve.specs.declared.run.RunHow.TheVariants.{Done, ReadFault, WriteFault, TooLong, WrongLine, NoMemory}
 use Rattle.dapi.specs.declared.words.WordFault.{WordFault}
 use Rattle.dapi.specs.declared.words.WordFault.TheVariants as faults
 use Rattle.dapi.specs.Words.{RunsOn, IsUsage, IsWordFault}
-use Rattle.dapi.specs.Note.{IsNoted, status_of, note_of, note_at, line_note, word_status, word_note, open_status, open_note, is_status}
+use Rattle.dapi.specs.Note.{status_of, note_of, note_at, line_note, word_status, open_status, open_note}
 use Rattle.dapi.specs.Ended.{EndsStore}
 use Rattle.dapi.specs.Top.{Runs, FailsOpening, IsOverfull}
 use Rattle.dapi.proofs.Choosing.{same_collections}
-use Rattle.dapi.proofs.Notes.{noted_by}
 
 -- the line that a run stopped at, or 0
 abbrev pub line_of : RunHow → ℕ
@@ -103,7 +101,6 @@ told_start count collections made (Some t) e = ap (option_map (start_of count)) 
 module _ {K : Type 0} (tables : K → Option Tables) (failed : K → ℕ) (words : List (List ℕ)) (given kept : K) (keyspace : List ℕ) (collections : List (List ℕ)) (store : Stored K) (times : Option (List ℤ))
     (asked : RunsOn words keyspace collections) (begins : (store.journal ≡ []) × (store.keeper ≡ store.base)) (made : tables store.base ≡ option_map (opened_with collections) (tables given))
     (start : store.start ≡ option_map (start_of (failed store.base)) (tables store.base)) (grows : failed given ≤ failed store.base) where
-
   module _ (from to : Reading) (before after : Writing) (how : RunHow) (Ended : (List (List ℕ) → List ℕ → Type 0) → Type 0) where
     runs_so : ((P : List (List ℕ) → List ℕ → Type 0) → EndsRun P from to before after how → Ended P) → EndsStore tables failed keyspace store times kept from to before after how → Runs tables failed words given kept times Ended
     runs_so so e = record {

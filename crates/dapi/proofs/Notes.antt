@@ -1,5 +1,5 @@
 -- The note of a status.
-use Rattle.std.proofs.Common.{◌≡◌, ℕ, refl}
+use Rattle.std.proofs.Common.{◌≡◌, refl}
 use Rattle.dapi.specs.Note.{status_of, note_of, note_at}
 use Rattle.api_serve.specs.declared.run.RunHow.{RunHow}
 use Rattle.api_serve.specs.declared.run.RunHow.TheVariants.{Done, ReadFault, WriteFault, TooLong, WrongLine, NoMemory}

@@ -1,5 +1,5 @@
 -- What a run says of its end: an exit status, and a line on the notes.
-use Rattle.std.specs.Prelude.{◌≡◌, ◌⊎◌, ℕ, List, [], ◌∷◌, ◌++◌, codes, decimal, take, Bool, ◌==◌, if◌then◌else◌}
+use Rattle.std.specs.Prelude.{◌⊎◌, ℕ, List, [], ◌∷◌, ◌++◌, codes, decimal, take, Bool, ◌==◌, if◌then◌else◌}
 use Rattle.std.specs.List.{list_any}
 use Rattle.outside_io.specs.Told.{Writing, Takes, IsHindered}
 use Rattle.api_serve.specs.declared.run.RunHow.{RunHow}

@@ -7,7 +7,6 @@ use Rattle.store_core.specs.Journal.{replay}
 use Rattle.store_core.specs.Opening.{opened_with, begun_with, would_live}
 use Rattle.store_core.specs.declared.entry.Entry.{Entry}
 use Rattle.cmd_tasks.specs.declared.trace.Trace.{Trace}
-use Rattle.api_serve.specs.Session.{Serving}
 use Rattle.api_serve.specs.Run.{ServesLines}
 use Rattle.dapi.specs.Words.{RunsOn}
 

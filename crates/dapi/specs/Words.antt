@@ -1,6 +1,6 @@
 -- The words of a command line: `run`, and options in any order.
 use Rattle.std.specs.Prelude.{◌≡◌, ℕ, ◌≤◌, IsTrue, List, [], ◌∷◌, ◌++◌, length, map, codes}
-use Rattle.std.specs.List.{flat_map, AllByRecursion as Each}
+use Rattle.std.specs.List.{AllByRecursion as Each}
 use Rattle.doc_paths.specs.Name.{is_collection_name}
 use Rattle.dapi.specs.declared.words.WordFault.{WordFault}
 use Rattle.dapi.specs.declared.words.WordFault.TheVariants.{Usage, NoMemory}
