@@ -21,7 +21,9 @@ use crate::work::{Glance, Moved, State, Wanted};
 use col_keeper::{Keeper, limits_bound_ids};
 use doc_paths::CollName;
 use json_tree::{Doc, DocId, TreeFault, Value};
-use reply_env::{ErrorItem, Reply, ReplyFault, already_exists, no_collection, store_fault, versions_spent};
+use reply_env::{
+    ErrorItem, Reply, ReplyFault, already_exists, no_collection, store_fault, versions_spent,
+};
 use shred_cols::Row;
 use std::alloc::Global;
 use store_core::{Change, Store, WriteOutcome};

@@ -119,8 +119,8 @@ impl Task {
         ensures done { result ≡ Next.Done → IfDone self.new.state (λ reply. ForSome store.old.start (λ base.
             IsServed base store.new.journal self.new.coll self.new.session (command_tree self.new.command.value) self.new.trace.items.items reply)) }
         ensures base { SameBase store.old store.new }
-    ensures grows { Grows (Some self.old.session) store.old.journal store.new.journal }
-    ensures faults { K.failed store.old.keeper ≤ K.failed store.new.keeper }
+        ensures grows { Grows (Some self.old.session) store.old.journal store.new.journal }
+        ensures faults { K.failed store.old.keeper ≤ K.failed store.new.keeper }
         ensures work { K.called store.new.keeper ≤ K.called store.old.keeper + 1 }
         ensures lawful { IsLawful store.new }
     {

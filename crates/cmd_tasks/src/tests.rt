@@ -1,18 +1,17 @@
 // Requests over a keeper in memory: their replies, and what they saw and did.
-ghost use Rattle.std.specs.Prelude.{◌≡◌, ◌<◌, IfOk, IfSome, []};
+ghost use Rattle.std.specs.Prelude.{◌<◌, IfOk, IfSome};
 ghost use Rattle.store_core.specs.Counts.{opened_in};
 ghost use Rattle.cmd_grammar.specs.Commands.{command_tree, IsAskable};
 
 use crate::run::serve;
-use crate::task::{Next, Served, Task};
-use crate::trace::{Item, Trace};
+use crate::task::{Served, Task};
+use crate::trace::Item;
 use cmd_grammar::{Command, read_request};
 use doc_paths::CollName;
 use json_tree::Text;
 use keeper_mem::MemKeeper;
-use reply_env::{Place, Request, print_reply};
+use reply_env::{Place, Reply, Request, print_reply};
 use std::alloc::Global;
-use std::fmt::Write;
 use std::test::Fail;
 use store_core::{OpenFault, Store};
 
@@ -51,97 +50,113 @@ fn opened(alloc: Global, fails: u64) -> Result<Option<Store<MemKeeper>>, Fail> {
     }
 }
 
-// An item, by its point.
-fn print_item(item: &Item, out: &mut String) -> Result<(), Fail> {
+// What an item tells, and its point.
+fn tells(item: &Item) -> (&'static str, u64) {
     match item {
-        Item::Looked { at, shown, .. } => write!(out, "{at} shows {}; ", shown.len())?,
-        Item::Wrote { at } => write!(out, "{at} wrote; ")?,
-        Item::Lost { at, read, found } => {
-            write!(out, "{at} read {read}, found {}; ", found.unwrap_or(0))?
-        }
-        Item::Faulted { at, before, after } => write!(out, "{at} failed {before} {after}; ")?,
+        Item::Looked { at, .. } => ("looked", *at),
+        Item::Wrote { at } => ("wrote", *at),
+        Item::Lost { at, .. } => ("lost", *at),
+        Item::Faulted { at, .. } => ("faulted", *at),
     }
-    Ok(())
 }
 
-// The reply and the items of a request that was served.
-fn print_served(alloc: Global, served: &Served) -> Result<String, Fail> {
-    let mut reply = Vec::new(alloc);
-    print_reply(alloc, &served.reply, &mut reply)?;
-    let mut out = String::new(alloc);
-    for place in 0..served.trace.len() {
-        if let Some(item) = served.trace.item(place) {
-            print_item(item, &mut out)?;
-        }
-    }
-    out.push_str(String::from_utf8(reply)?.as_str())?;
+fn text_of(alloc: Global, reply: &Reply) -> Result<Vec<u8>, Fail> {
+    let mut out = Vec::new(alloc);
+    print_reply(alloc, reply, &mut out)?;
     Ok(out)
 }
 
-// What a new session is answered, on the collection of this name, and what it saw and did.
-fn answered(
+// A request is served whose session was opened.
+fn served(
     alloc: Global,
     store: &mut Store<MemKeeper>,
-    name: &str,
-    body: &str,
-) -> Result<Option<String>, Fail> {
-    let coll = CollName::read(alloc, name)?;
-    let Some(command) = command_of(alloc, body)? else {
-        return Ok(None);
-    };
-    let Ok(session) = store.open_session(alloc) else {
-        return Ok(None);
-    };
-    let served = serve(alloc, store, Task::new(alloc, session, coll, 0, command));
-    Ok(Some(print_served(alloc, &served)?))
+    session: u64,
+    coll: CollName,
+    command: Command,
+) -> Served
+    requires known { session < opened_in store.old.journal }
+    requires asked { IsAskable (command_tree command) }
+{
+    serve(alloc, store, Task::new(alloc, session, coll, 0, command))
 }
 
-// The place of the first request that isn't answered so.
+// A collection, a body, what is answered, and the one item with its point.
+type Row = (&'static str, &'static str, &'static str, &'static str, u64);
+
+// Whether a new session is answered so.
+fn is_answered(alloc: Global, store: &mut Store<MemKeeper>, row: Row) -> Result<bool, Fail> {
+    let coll = CollName::read(alloc, row.0)?;
+    let Some(command) = command_of(alloc, row.1)? else {
+        return Ok(false);
+    };
+    let Ok(session) = store.open_session(alloc) else {
+        return Ok(false);
+    };
+    let served = served(alloc, store, session, coll, command);
+    let text = text_of(alloc, &served.reply)?;
+    match served.trace.item(0) {
+        Some(item) => Ok(text.as_slice() == row.2.as_bytes() && tells(item) == (row.3, row.4)),
+        None => Ok(false),
+    }
+}
+
+// The place of the first row that isn't answered so.
 fn first_wrong(
     alloc: Global,
     store: &mut Store<MemKeeper>,
-    rows: &[(&str, &str, &str)],
+    rows: &[Row],
 ) -> Result<Option<usize>, Fail> {
     for i in 0..rows.len() {
-        let answer = answered(alloc, store, rows[i].0, rows[i].1)?;
-        if answer.as_deref() != Some(rows[i].2) {
+        if !is_answered(alloc, store, rows[i])? {
             return Ok(Some(i));
         }
     }
     Ok(None)
 }
 
-// Collections, bodies, and what is answered. The third call of the keeper that a request makes fails.
-const ROWS: [(&str, &str, &str); 6] = [
+// The fifth call of the keeper fails: the first lists, the second makes the collection.
+const ROWS: [Row; 6] = [
     (
         "c",
         r#"{"insertOne":{"document":{"_id":"a","n":1}}}"#,
-        r#"1 wrote; {"status":{"insertedIds":["a"]}}"#,
+        r#"{"status":{"insertedIds":["a"]}}"#,
+        "wrote",
+        1,
     ),
     (
         "c",
         r#"{"insertOne":{"document":{"_id":"a"}}}"#,
-        r#"3 read 0, found 1; {"errors":[{"message":"Document \"a\" already exists at version 1","errorCode":"DOCUMENT_ALREADY_EXISTS"}]}"#,
+        r#"{"errors":[{"message":"Document \"a\" already exists at version 1","errorCode":"DOCUMENT_ALREADY_EXISTS"}]}"#,
+        "lost",
+        3,
     ),
     (
         "c",
         r#"{"findOne":{}}"#,
-        r#"4 failed 0 1; {"errors":[{"message":"Store fault: 0 then 1","errorCode":"STORE_FAULT"}]}"#,
+        r#"{"errors":[{"message":"Store fault: 0 then 1","errorCode":"STORE_FAULT"}]}"#,
+        "faulted",
+        4,
     ),
     (
         "c",
         r#"{"findOne":{"filter":{"n":1}}}"#,
-        r#"6 shows 1; {"data":{"document":{"_id":"a","n":1}}}"#,
+        r#"{"data":{"document":{"_id":"a","n":1}}}"#,
+        "looked",
+        6,
     ),
     (
         "c",
         r#"{"countDocuments":{"filter":{"n":2}}}"#,
-        r#"7 shows 0; {"status":{"count":0}}"#,
+        r#"{"status":{"count":0}}"#,
+        "looked",
+        7,
     ),
     (
         "zz",
         r#"{"insertOne":{"document":{"_id":"a"}}}"#,
-        r#"8 shows 0; {"errors":[{"message":"Collection zz does not exist","errorCode":"COLLECTION_NOT_EXIST"}]}"#,
+        r#"{"errors":[{"message":"Collection zz does not exist","errorCode":"COLLECTION_NOT_EXIST"}]}"#,
+        "looked",
+        8,
     ),
 ];
 
@@ -154,38 +169,5 @@ fn requests_see_and_do_what_they_say(rt: HostRuntime) -> Result<(), Fail> {
     let wrong = first_wrong(alloc, &mut store, &ROWS);
     let _keeper = store.into_keeper();
     assert_eq!(rt; wrong?, None);
-    Ok(())
-}
-
-// One step of a request by itself.
-fn stepped(alloc: Global, store: &mut Store<MemKeeper>) -> Result<Option<String>, Fail> {
-    let coll = CollName::read(alloc, "c")?;
-    let Some(command) = command_of(alloc, r#"{"countDocuments":{}}"#)? else {
-        return Ok(None);
-    };
-    let Ok(session) = store.open_session(alloc) else {
-        return Ok(None);
-    };
-    let mut task = Task::new(alloc, session, coll, 7, command);
-    match task.step(alloc, store) {
-        Next::More => Ok(None),
-        Next::Done => {
-            let served = task.into_served();
-            let mut out = print_served(alloc, &served)?;
-            write!(out, " at {}", served.trace.moment())?;
-            Ok(Some(out))
-        }
-    }
-}
-
-#[test]
-fn a_page_is_a_step(rt: HostRuntime) -> Result<(), Fail> {
-    let alloc = rt.alloc();
-    let Some(mut store) = opened(alloc, 0)? else {
-        panic!(rt; "not opened");
-    };
-    let answer = stepped(alloc, &mut store);
-    let _keeper = store.into_keeper();
-    assert_eq!(rt; answer?.as_deref(), Some(r#"1 shows 0; {"status":{"count":0}} at 7"#));
     Ok(())
 }

@@ -16,7 +16,9 @@ pub enum Item {
         shown: Vec<(DocId, u64)>,
     },
     /// a write that was accepted: its entry stands at `at`
-    Wrote { at: u64 },
+    Wrote {
+        at: u64,
+    },
     /// a write that wasn't accepted, since another number than `read` was found, or none
     Lost {
         at: u64,
@@ -24,7 +26,11 @@ pub enum Item {
         found: Option<u64>,
     },
     /// a call that failed, with the keeper's counts of faults: its entry stands at `at`
-    Faulted { at: u64, before: u64, after: u64 },
+    Faulted {
+        at: u64,
+        before: u64,
+        after: u64,
+    },
 }
 
 /// A request's moment and its items, in order.
