@@ -37,22 +37,22 @@ halves-init c =
     let front = c.front-front.result in
     let before = start_before es c.args.column front c.args.path.now c.args.bytes.now c.args.end c.front-front.ensures in
     elim c.if-front-back.branch [
-      then-front-back+then-not-is_short_of w ↦
-        let within = in_column es c.args.column front c.back-back.result (front + 1) c.args.path.now c.args.bytes.now c.args.end w.index-entries-front.result c.front-front.ensures c.back-back.ensures (omega arith) w.if-front-back.true w.index-entries-front.is in
-        record {
-          front = omega arith;
-          back = omega (arith, w.high-is, w.if-front-back.true);
-          low = c.front-front.ensures.within;
-          high = omega (arith, w.high-is, w.if-front-back.true, c.back-back.ensures.within);
-          before = before;
-          after = subst (λ n. (k : ℕ) (d : Entry) → n ≤ k → k < length es → is_before c.args.column c.args.path.now c.args.end c.args.bytes.now (get_or es k d) ≡ false) (sym w.high-is) (halved_after es c.args.column (front + 1) c.args.path.now c.args.bytes.now c.args.end w.index-entries-front.result c.requires.sorted (omega (arith, w.if-front-back.true, c.back-back.ensures.within)) w.index-entries-front.is (within ∙ sym w.is_short_of.ensures ∙ w.if-not-is_short_of.true));
-        }
+      | then-front-back+then-not-is_short_of w ↦
+          let within = in_column es c.args.column front c.back-back.result (front + 1) c.args.path.now c.args.bytes.now c.args.end w.index-entries-front.result c.front-front.ensures c.back-back.ensures (omega arith) w.if-front-back.true w.index-entries-front.is in
+          record {
+            front = omega arith;
+            back = omega (arith, w.high-is, w.if-front-back.true);
+            low = c.front-front.ensures.within;
+            high = omega (arith, w.high-is, w.if-front-back.true, c.back-back.ensures.within);
+            before = before;
+            after = subst (λ n. (k : ℕ) (d : Entry) → n ≤ k → k < length es → is_before c.args.column c.args.path.now c.args.end c.args.bytes.now (get_or es k d) ≡ false) (sym w.high-is) (halved_after es c.args.column (front + 1) c.args.path.now c.args.bytes.now c.args.end w.index-entries-front.result c.requires.sorted (omega (arith, w.if-front-back.true, c.back-back.ensures.within)) w.index-entries-front.is (within ∙ sym w.is_short_of.ensures ∙ w.if-not-is_short_of.true));
+          }
       | else-front-back w ↦ record {
-          front = omega arith;
-          back = omega (arith, w.high-is);
-          low = c.front-front.ensures.within;
-          high = omega (arith, w.high-is, c.back-back.ensures.within);
-          before = before;
-          after = subst (λ n. (k : ℕ) (d : Entry) → n ≤ k → k < length es → is_before c.args.column c.args.path.now c.args.end c.args.bytes.now (get_or es k d) ≡ false) (sym w.high-is) (end_after es c.args.column c.back-back.result c.args.path.now c.args.bytes.now c.args.end c.back-back.ensures);
-        }
+        front = omega arith;
+        back = omega (arith, w.high-is);
+        low = c.front-front.ensures.within;
+        high = omega (arith, w.high-is, c.back-back.ensures.within);
+        before = before;
+        after = subst (λ n. (k : ℕ) (d : Entry) → n ≤ k → k < length es → is_before c.args.column c.args.path.now c.args.end c.args.bytes.now (get_or es k d) ≡ false) (sym w.high-is) (end_after es c.args.column c.back-back.result c.args.path.now c.args.bytes.now c.args.end c.back-back.ensures);
+      }
     ]
