@@ -1,7 +1,7 @@
 // The judgement of columns.
 ghost use Rattle.std.specs.Prelude.{◌≡◌, Bool, true, List};
-ghost use Rattle.filter_plan.specs.Steps.{StepTree, steps_of, inverse, both, either, of_probe, verdict, all_verdict, any_verdict};
-ghost use Rattle.filter_plan.specs.View.{step_tree, IsPlanOf};
+ghost use Rattle.filter_plan.specs.Steps.{StepTree, is_whole, steps_of, inverse, both, either, of_probe, verdict, all_verdict, any_verdict};
+ghost use Rattle.filter_plan.specs.View.{step_tree, kept_step, IsPlanOf};
 ghost use Rattle.filter_plan.specs.Judging.{Judged};
 ghost use Rattle.json_tree.specs.Writable.{IsWritable};
 ghost use Rattle.filter_tree.specs.Ready.{is_ready, FilterIsWritable};
@@ -134,6 +134,70 @@ fn shared_path(steps: &[Step]) -> Option<&Path> {
     }
 }
 
+// ---- steps that ask for one of many values at a path
+
+fn is_whole(kept: &Kept) -> bool
+    ensures { result ≡ is_whole kept.now }
+{
+    match kept {
+        Kept::Whole(_) => true,
+        Kept::Digest(_) => false,
+    }
+}
+
+fn judge_among(path: &Path, kepts: &[Kept], columns: &Columns) -> Verdict
+    ensures { result ≡ any_verdict columns.now (steps_of (map (kept_step path.now) kepts.now)) }
+{
+    let run = columns.kept_at(path);
+    if run.len() > SHORT {
+        return among_all(path, kepts, columns);
+    }
+    among_run(path, kepts, columns, run)
+}
+
+// The values are sought among all entries.
+fn among_all(path: &Path, kepts: &[Kept], columns: &Columns) -> Verdict
+    ensures { result ≡ any_verdict columns.now (steps_of (map (kept_step path.now) kepts.now)) }
+{
+    let mut any = Verdict::No;
+    for kept in kepts {
+        any = either(any, of_probe(columns.keeps(path, kept), is_whole(kept)));
+        if let Verdict::Yes = any {
+            return Verdict::Yes;
+        }
+    }
+    any
+}
+
+// The values are sought in the run of the path.
+fn among_run(path: &Path, kepts: &[Kept], columns: &Columns, run: &[Entry]) -> Verdict
+    requires asked { (k : Kept) → list_any (inside (p.Has path.now k)) run.now ≡ meets (p.Has path.now k) columns.now }
+    requires only { list_all (is_kept_at path.now) run.now ≡ true }
+    ensures { result ≡ any_verdict columns.now (steps_of (map (kept_step path.now) kepts.now)) }
+{
+    let mut any = Verdict::No;
+    for kept in kepts {
+        any = either(
+            any,
+            of_probe(keeps_near(path, kept, columns, run), is_whole(kept)),
+        );
+        if let Verdict::Yes = any {
+            return Verdict::Yes;
+        }
+    }
+    any
+}
+
+fn keeps_near(path: &Path, kept: &Kept, columns: &Columns, run: &[Entry]) -> bool
+    requires asked { (k : Kept) → list_any (inside (p.Has path.now k)) run.now ≡ meets (p.Has path.now k) columns.now }
+    requires only { list_all (is_kept_at path.now) run.now ≡ true }
+    ensures { result ≡ meets (p.Has path.now kept.now) columns.now }
+{
+    is_kept(kept, run)
+}
+
+// ---- all steps
+
 #[cycle(judging)]
 fn judge(step: &Step, columns: &Columns) -> Verdict
     ensures { result ≡ verdict columns.now (step_tree step.now) }
@@ -143,6 +207,7 @@ fn judge(step: &Step, columns: &Columns) -> Verdict
         Step::Any(steps) => judge_any(steps.as_slice(), columns),
         Step::Not(step) => inverse(judge(step, columns)),
         Step::Met(probe, exact) => of_probe(columns.meets(probe), *exact),
+        Step::Among(path, kepts) => judge_among(path, kepts.as_slice(), columns),
     }
 }
 

@@ -1,5 +1,6 @@
 // Plans, and what they tell.
-use shred_cols::Probe;
+use doc_paths::Path;
+use shred_cols::{Kept, Probe};
 use sqlite_items::Items;
 use thiserror::Error;
 
@@ -25,6 +26,9 @@ pub enum PlanFault {
 /// The steps of a list.
 pub(crate) type Steps = Items<Step>;
 
+/// Values, as they are kept.
+pub(crate) type Kepts = Items<Kept>;
+
 /// A filter as a tree of probes.
 #[cycle(step)]
 #[derive(Drop)]
@@ -37,6 +41,8 @@ pub(crate) enum Step {
     Not(Box<Step>),
     /// some entry meets the probe, which decides, or else asks for a look
     Met(Probe, bool),
+    /// one of the values is kept at the path
+    Among(Path, Kepts),
 }
 
 /// A filter made ready to judge columns by.

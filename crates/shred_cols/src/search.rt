@@ -14,8 +14,11 @@ ghost use Rattle.shred_cols.specs.Search.{is_before, is_short_of, end_cmp, is_at
 ghost use Rattle.shred_cols.specs.declared.entry.Entry.{Entry};
 
 use crate::entry::Entry;
-use crate::probe::{Probe, inside};
+use crate::forms::Kept;
+use crate::probe::{Probe, inside, number_within};
 use crate::starts::Starts;
+use doc_paths::Path;
+use json_tree::Num;
 use std::cmp::Ordering;
 
 /// A column of no more entries than this is looked through, which takes less than a search.
@@ -65,6 +68,10 @@ fn seek(
     let back = starts.back(column, entries);
     let mut low = front;
     let mut high = back;
+    // `_id`, which is the first path of most documents, is found in two steps
+    if front + 1 < back && !is_short_of(path, end, bytes, &entries[front + 1]) {
+        high = front + 1;
+    }
     'halves: while low < high {
         let middle = low + (high - low) / 2;
         if is_short_of(path, end, bytes, &entries[middle]) {
@@ -82,8 +89,38 @@ fn entry_in(entries: &[Entry], place: usize) -> Option<&Entry>
     entries.get(place)
 }
 
+/// Whether an entry of a run says a number of a path and a range.
+fn any_number(path: &Path, low: &Option<Num>, high: &Option<Num>, run: &[Entry]) -> bool
+    ensures { result ≡ list_any (inside (p.NumRange path.now low.now high.now)) run.now }
+{
+    for entry in run {
+        if is_number(path, low, high, entry) {
+            return true;
+        }
+    }
+    false
+}
+
+fn is_number(path: &Path, low: &Option<Num>, high: &Option<Num>, entry: &Entry) -> bool
+    ensures { result ≡ inside (p.NumRange path.now low.now high.now) entry.now }
+{
+    match entry {
+        Entry::Num(own, n) => path.text() == own.text() && number_within(low, high, n),
+        _ => false,
+    }
+}
+
 /// Whether an entry of a run is one that a probe asks for.
 fn any_of(probe: &Probe, run: &[Entry]) -> bool
+    ensures { result ≡ list_any (inside probe.now) run.now }
+{
+    match probe {
+        Probe::NumRange(path, low, high) => any_number(path, low, high, run),
+        _ => any_each(probe, run),
+    }
+}
+
+fn any_each(probe: &Probe, run: &[Entry]) -> bool
     ensures { result ≡ list_any (inside probe.now) run.now }
 {
     for entry in run {
@@ -126,6 +163,28 @@ pub(crate) fn any_inside(probe: &Probe, entries: &[Entry], starts: &Starts) -> b
         return any_of(probe, part(entries, front, back));
     }
     any_found(probe, entries, starts)
+}
+
+/// Whether one of the entries says that a value is kept at a path.
+pub(crate) fn any_keeps(entries: &[Entry], starts: &Starts, path: &Path, kept: &Kept) -> bool
+    requires sorted { IsStrictlySortedBy entry_cmp entries.now }
+    requires starts { AreStarts starts.now entries.now }
+    ensures { result ≡ list_any (inside (p.Has path.now kept.now)) entries.now }
+{
+    let place = seek(entries, starts, 3, path.text(), kept.number(), kept.bytes());
+    match entry_in(entries, place) {
+        Some(entry) => keeps(path, kept, entry),
+        None => false,
+    }
+}
+
+fn keeps(path: &Path, kept: &Kept, entry: &Entry) -> bool
+    ensures { result ≡ inside (p.Has path.now kept.now) entry.now }
+{
+    match entry {
+        Entry::Has(own, other) => path.text() == own.text() && kept.same(other),
+        _ => false,
+    }
 }
 
 /// The run of the entries that say which values are kept at a path.

@@ -1,0 +1,8 @@
+use Rattle.std.proofs.Common.{◌≡◌, false, take}
+use Rattle.std.specs.List.{list_any}
+use Rattle.shred_cols.specs.Probe.{inside}
+use Rattle.shred_cols.specs.declared.probe.Probe.TheVariants as p
+use Rattle.shred_cols.proofs.search.any_number.Given as goal
+
+abbrev pub invariant-loop-entry : goal.invariant-loop-entry
+invariant-loop-entry l = list_any (inside (p.NumRange l.path l.low l.high)) (take l.entry-index l.run) ≡ false
