@@ -3,25 +3,21 @@ use Rattle.std.proofs.Common.{◌≡◌, ◌+◌, ◌<◌, ◌↔◌, inl, inr, 
 use Rattle.std.specs.List.{list_any, list_all}
 use Rattle.std.proofs.lemmas.List.Folds.{list_all-append}
 use Rattle.std.proofs.Math.Seq.{drop-cons}
-use Rattle.std.proofs.lemmas.Bool.Decides.{same_from_decides}
 use Rattle.std.proofs.lemmas.Option.{slice_get_within, get_or_from_slice_get}
-use Rattle.json_tree.specs.Tree.{Tree, elements_of, list_of_elements, members_of, list_of_members}
+use Rattle.json_tree.specs.Tree.{Tree, elements_of, members_of, tree_size, trees_size, pairs_size}
+use Rattle.json_tree.specs.RoundTrips.{list_of_elements-elements_of, list_of_members-members_of}
+use Rattle.json_tree.specs.Falls.{elements_size-elements_of, members_size-members_of}
 use Rattle.json_tree.specs.Members.{member_at}
 use Rattle.json_tree.specs.Doc.{is_dollar}
 use Rattle.doc_limits.specs.Names.{names_in, names_in_elements, names_in_members}
 use Rattle.update_ops.specs.Forms.{is_form, members_in, position_in, each_in, values_in, is_storable_name, is_storable, is_storable_pair}
 use Rattle.update_ops.specs.Reads.{Reads}
-use Rattle.json_tree.specs.Same.{same}
-use Rattle.json_tree.proofs.Alike.{same-Decides}
 use Rattle.std.specs.Prelude.{IfOk, IfErr, option_map, codes}
 use Rattle.json_tree.specs.View.{tree}
 use Rattle.json_tree.specs.declared.value.Value.{Value}
-use Rattle.update_ops.specs.Apply.{Gives, elements, listed, added, added_one}
+use Rattle.update_ops.specs.Apply.{Gives, elements, listed}
 use Rattle.update_ops.specs.declared.fault.UpdateFault.{UpdateFault}
 use Rattle.update_ops.specs.declared.fault.UpdateFault.TheVariants.{NoMemory}
-
-pub sameness : (r : Bool) (a b : Tree) → (IsTrue r ↔ (a ≡ b)) → r ≡ same a b
-sameness r a b h = same_from_decides r (same a b) h (same-Decides a b)
 
 pub drop-at : {X : Type 0} (xs : List X) (i : ℕ) (x : X) → Some x ≡ slice_get xs i → drop i xs ≡ x ∷ drop (i + 1) xs
 drop-at xs i x e = drop-cons xs i x (slice_get_within xs i x (sym e)) ∙ ap₂ (λ a b. a ∷ drop b xs) (get_or_from_slice_get xs i x x (sym e)) (sym (add-one i))
@@ -32,23 +28,10 @@ any_past p xs i x r at e h = ap (λ b. b || list_any p (drop (i + 1) xs)) (sym e
 pub any_here : {X : Type 0} (p : X → Bool) (xs : List X) (i : ℕ) (x : X) (r : Bool) → Some x ≡ slice_get xs i → p x ≡ true → list_any p (drop i xs) ≡ r → true ≡ r
 any_here p xs i x r at e h = ap (λ b. b || list_any p (drop (i + 1) xs)) (sym e) ∙ ap (list_any p) (sym (drop-at xs i x at)) ∙ h
 
-pub trees_within : (ts : List Tree) → list_of_elements (elements_of ts) ≡ ts
-trees_within [] = refl
-trees_within (t ∷ ts) = ap (λ x. t ∷ x) (trees_within ts)
-
--- one more value added
-pub added_past : (xs : List Tree) (i : ℕ) (x : Tree) (out new all : List Tree) → Some x ≡ slice_get xs i → new ≡ added_one x out → added (drop i xs) out ≡ all → added (drop (i + 1) xs) new ≡ all
-added_past xs i x out new all at e h = ap (added (drop (i + 1) xs)) e ∙ ap (λ l. added l out) (sym (drop-at xs i x at)) ∙ h
-
 -- ---- lists at a path
 
 pub elements_at : (path : List ℕ) (v : Tree) (ts : List Tree) → v ≡ Tree.list (elements_of ts) → elements path (Some v) ≡ Ok ts
-elements_at path v ts is = ap (λ u. elements path (Some u)) is ∙ ap Ok (trees_within ts)
-
-pub gives_as : {X Y : Type 0} (view : X → Y) (r : Result X UpdateFault) (m n : Result Y UpdateFault) → m ≡ n → Gives view r m → Gives view r n
-gives_as view (Ok x) m n e h = sym e ∙ h
-gives_as view (Err f) m n e (inl h) = inl h
-gives_as view (Err f) m n e (inr h) = inr (sym e ∙ h)
+elements_at path v ts is = ap (λ u. elements path (Some u)) is ∙ ap Ok (list_of_elements-elements_of ts)
 
 pub gives_list : (r : Result (Option Value) UpdateFault) (f : List Tree → List Tree) (path : List ℕ) (v : Tree) (ts : List Tree) → v ≡ Tree.list (elements_of ts)
     → IfOk r (λ x. option_map tree x ≡ Some (Tree.list (elements_of (f ts)))) → IfErr r (λ e. e ≡ NoMemory)
@@ -78,10 +61,6 @@ all_past p xs i x r at e h = ap (λ b. b && list_all p (drop (i + 1) xs)) (sym e
 pub all_fails : {X : Type 0} (p : X → Bool) (xs : List X) (i : ℕ) (x : X) (r : Bool) → Some x ≡ slice_get xs i → p x ≡ false → list_all p (drop i xs) ≡ r → false ≡ r
 all_fails p xs i x r at e h = ap (λ b. b && list_all p (drop (i + 1) xs)) (sym e) ∙ ap (list_all p) (sym (drop-at xs i x at)) ∙ h
 
-pub pairs_within : (ps : List (List ℕ × Tree)) → list_of_members (members_of ps) ≡ ps
-pairs_within [] = refl
-pairs_within (p ∷ ps) = ap (λ x. p ∷ x) (pairs_within ps)
-
 pub first_form : (v : Tree) (ps : List (List ℕ × Tree)) (n : List ℕ) (t : Tree) → v ≡ Tree.object (members_of ps) → Some (n, t) ≡ slice_get ps 0 → is_dollar n ≡ is_form v
 first_form v [] n t is at = Prim.cc at
 first_form v (p ∷ ps) n t is at = let e : (n, t) ≡ p = Prim.cc at in ap (λ (q : List ℕ × Tree). is_dollar q.0) e ∙ ap is_form (sym is)
@@ -91,7 +70,7 @@ no_form v [] is at = ap is_form (sym is)
 no_form v (p ∷ ps) is at = Prim.cc at
 
 pub form_members : (v : Tree) (ps : List (List ℕ × Tree)) → v ≡ Tree.object (members_of ps) → members_in v ≡ ps
-form_members v ps is = ap members_in is ∙ pairs_within ps
+form_members v ps is = ap members_in is ∙ list_of_members-members_of ps
 
 pub place_of_form : (v : Tree) (ps : List (List ℕ × Tree)) → v ≡ Tree.object (members_of ps) → true ≡ is_form v → member_at (codes "$position") ps ≡ position_in v
 place_of_form v ps is form =
@@ -141,3 +120,9 @@ pair_fails_inside ps i n t r at e h = all_fails is_storable_pair ps i (n, t) r a
 pub pair_passes : (ps : List (List ℕ × Tree)) (i : ℕ) (n : List ℕ) (t : Tree) (r : Bool) → Some (n, t) ≡ slice_get ps i → is_storable_name n ≡ true → is_storable t ≡ true
     → list_all is_storable_pair (drop i ps) ≡ r → list_all is_storable_pair (drop (i + 1) ps) ≡ r
 pair_passes ps i n t r at e f h = all_past is_storable_pair ps i (n, t) r at (ap₂ (λ a b. a && b) e f) h
+
+pub list_size : (v : Tree) (ts : List Tree) → v ≡ Tree.list (elements_of ts) → tree_size v ≡ 1 + trees_size ts
+list_size v ts is = ap tree_size is ∙ ap (λ n. 1 + n) (elements_size-elements_of ts)
+
+pub object_size : (v : Tree) (ps : List (List ℕ × Tree)) → v ≡ Tree.object (members_of ps) → tree_size v ≡ 1 + pairs_size ps
+object_size v ps is = ap tree_size is ∙ ap (λ n. 1 + n) (members_size-members_of ps)

@@ -96,11 +96,6 @@ abbrev pub put_or : List ℕ → Result Tree PathFault → Result Tree UpdateFau
 put_or path (Ok d) = Ok d
 put_or path (Err e) = Err (WrongTarget path)
 
--- the value that is there is the same as x
-abbrev pub is_there : Option Tree → Tree → Bool
-is_there None x = false
-is_there (Some v) x = same v x
-
 -- the value put at a path, or a wrong target there
 abbrev pub put_at : List ℕ → Tree → Tree → Result Tree UpdateFault
 put_at path x d = put_or path (put 0 d (parts path) x)

@@ -27,6 +27,7 @@ pub(crate) fn first_part(text: &str) -> (&str, Option<&str>)
 }
 
 /// The order of two texts by their parts.
+#[cycle(comparing)]
 fn parts_cmp(text: &str, other: &str) -> Ordering
     ensures { result ≡ parts_cmp (parts text.now) (parts other.now) }
 {
@@ -38,6 +39,7 @@ fn parts_cmp(text: &str, other: &str) -> Ordering
     }
 }
 
+#[cycle(comparing)]
 fn more_cmp(more: Option<&str>, other: Option<&str>) -> Ordering
     ensures { result ≡ parts_cmp (base_parts (option_map (λ m. m.now) more.entry)) (base_parts (option_map (λ m. m.now) other.entry)) }
 {
@@ -118,6 +120,18 @@ impl PartialOrd for Listed {
     }
 }
 
+impl Listed {
+    fn path(&self) -> &Path
+        ensures { result.now ≡ self.now }
+    {
+        &self.path
+    }
+
+    fn place(&self) -> usize {
+        self.place
+    }
+}
+
 fn with_places(alloc: Global, paths: &[Path]) -> Result<Vec<Listed>, UpdateFault>
     ensures ok { IfOk result (λ v. v.items ≡ paths.now) }
     ensures err { IfErr result (λ e. e ≡ NoMemory) }
@@ -163,7 +177,7 @@ pub(crate) fn are_apart(sorted: &[Listed]) -> bool
     ensures { result ≡ true → AllAdjacentBelow (λ p q. overlap p q ≡ false) sorted.now (length sorted.now) }
 {
     for i in 1..sorted.len() {
-        if overlap(&sorted[i - 1].path, &sorted[i].path) {
+        if overlap(sorted[i - 1].path(), sorted[i].path()) {
             return false;
         }
     }
@@ -184,7 +198,7 @@ struct Passed {
 fn last_over(passed: &mut Vec<Passed>, sorted: &[Listed], path: &Path) -> Option<usize> {
     'passed: while let Some(last) = passed.last() {
         let last = *last;
-        if let Some(before) = sorted.get(last.at) && overlap(&before.path, path) {
+        if let Some(before) = sorted.get(last.at) && overlap(before.path(), path) {
             return Some(last.least);
         }
         passed.pop();
@@ -200,9 +214,9 @@ pub(crate) fn likely_end(alloc: Global, sorted: &[Listed]) -> Result<usize, Upda
     let mut end = sorted.len();
     let mut passed: Vec<Passed> = Vec::new(alloc);
     for at in 0..sorted.len() {
-        let place = sorted[at].place;
+        let place = sorted[at].place();
         let mut least = place;
-        if let Some(before) = last_over(&mut passed, sorted, &sorted[at].path) {
+        if let Some(before) = last_over(&mut passed, sorted, sorted[at].path()) {
             end = end.min(before.max(place));
             least = before.min(place);
         }

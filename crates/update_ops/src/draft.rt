@@ -1,11 +1,11 @@
 // A value that clauses change: the given one stands until the first change, which makes a copy.
-ghost use Rattle.std.specs.Prelude.{◌≡◌, Ok, IfOk, IfErr};
+ghost use Rattle.std.specs.Prelude.{◌≡◌, true, Some, Ok, IfOk, IfErr};
 ghost use Rattle.json_tree.specs.View.{tree};
 ghost use Rattle.doc_paths.specs.Text.{parts};
 ghost use Rattle.doc_paths.specs.At.{at};
 ghost use Rattle.doc_paths.specs.Change.{without};
 ghost use Rattle.update_ops.specs.View.{standing};
-ghost use Rattle.update_ops.specs.Apply.{Gives, put_at, moved, is_there};
+ghost use Rattle.update_ops.specs.Apply.{Gives, put_at, moved};
 ghost use Rattle.update_ops.specs.declared.fault.UpdateFault.TheVariants.{NoMemory};
 
 use crate::copies::copy;
@@ -38,7 +38,7 @@ fn own(alloc: Global, given: &Value, changed: Option<Value>) -> Result<Value, Up
 
 /// Whether the value at a path is the same as another one.
 fn is_there(path: &Path, value: &Value, new: &Value) -> bool
-    ensures { result ≡ is_there (at (tree value.now) (parts path.now)) (tree new.now) }
+    ensures { result ≡ true → at (tree value.now) (parts path.now) ≡ Some (tree new.now) }
 {
     match path.at(value) {
         Some(there) => there.same(new),

@@ -1,6 +1,7 @@
 // Values of which a list has none.
-ghost use Rattle.std.specs.Prelude.{◌≡◌, ◌∷◌, ◌++◌, [], map, true, String, string_bytes, IfOk, IfErr, OnOk};
+ghost use Rattle.std.specs.Prelude.{◌≡◌, ◌∷◌, ◌++◌, [], List, map, true, string_bytes, IfOk, IfErr, OnOk};
 ghost use Rattle.std.specs.List.{list_any};
+ghost use Rattle.json_tree.specs.Tree.{Tree};
 ghost use Rattle.json_tree.specs.View.{tree};
 ghost use Rattle.json_tree.specs.Same.{same};
 ghost use Rattle.json_text.specs.Print.{text_of};
@@ -12,7 +13,7 @@ ghost use Rattle.update_ops.specs.declared.fault.UpdateFault.TheVariants.{NoMemo
 use crate::compare::{has, has_among};
 use crate::fault::UpdateFault;
 use json_text::canon;
-use json_tree::Value;
+use json_tree::{Value, same_decides};
 use std::alloc::Global;
 use std::collections::BTreeMap;
 
@@ -140,6 +141,7 @@ fn is_seen(
     ensures ok { IfOk result (λ b. b ≡ list_any (λ t. same t (tree value.now)) (map tree elements.now ++ trees more.now)) }
     ensures err { IfErr result (λ e. e ≡ NoMemory) }
 {
+    same_decides();
     let text = text_of(alloc, value)?;
     match seen.get(text.as_str()) {
         Some(place) => Ok(is_at(elements, more, *place, value) || has_either(elements, more, value)),

@@ -1,6 +1,7 @@
 use Rattle.std.proofs.Common.{ap, arith, sym}
 use Rattle.json_tree.specs.View.{tree}
-use Rattle.filter_tree.proofs.Walks.{tree_falls, pair_falls, list_size, object_size}
+use Rattle.json_tree.specs.Sizes.{tree_falls, pair_falls}
+use Rattle.update_ops.proofs.Walks.{list_size, object_size}
 use Rattle.update_ops.specs.Forms.{is_storable}
 use Rattle.update_ops.proofs.Walks.{all_fails, all_past, storable_list, storable_object, pair_fails, pair_fails_inside, pair_passes}
 use Rattle.update_ops.proofs.operand.+storable.Goals as goal
