@@ -1,5 +1,5 @@
 -- Where the same value is there, and where there is none to take, nothing changes.
-use Rattle.std.proofs.Common.{◌≡◌, ◌⊎◌, inl, inr, ◌<◌, ◌-◌, ℕ, zero, suc, Bool, true, false, cond, nat_lt, nat_le, ◌||◌, List, [], ◌∷◌, ◌++◌, length, replicate, Option, Some, None, option_and_then, option_map, Result, Ok, Err, refl, sym, ◌∙◌, ap, arith, slice_get, slice_set}
+use Rattle.std.proofs.Common.{◌≡◌, ◌⊎◌, inl, inr, ◌<◌, ◌-◌, ℕ, zero, suc, Bool, true, false, cond, nat_lt, nat_le, ◌||◌, List, [], ◌∷◌, ◌++◌, length, replicate, Option, Some, None, option_and_then, option_map, Result, Ok, Err, refl, sym, ◌∙◌, ap, arith, slice_get, slice_set, subst}
 use Rattle.std.specs.Str.{bytes_eq}
 use Rattle.std.proofs.lemmas.Bool.{lt-ltb}
 use Rattle.std.specs.Prelude.{is_some}
@@ -14,7 +14,8 @@ use Rattle.doc_paths.specs.At.{at, inside}
 use Rattle.doc_paths.specs.Change.{changed, or_object, put_element, into, into_list, put, set_at, replaced, cut, stepped, without}
 use Rattle.doc_paths.specs.declared.fault.PathFault.{PathFault}
 use Rattle.doc_paths.specs.declared.fault.PathFault.TheVariants.{PadTooLong}
-use Rattle.update_ops.specs.Apply.{Gives, Puts, put_or, put_at, put_made}
+use Rattle.update_ops.specs.Apply.{Gives, Puts, put_or, put_at, put_made, made}
+use Rattle.update_ops.specs.Clauses.{Effect}
 use Rattle.update_ops.specs.declared.fault.UpdateFault.{UpdateFault}
 
 -- ---- members
@@ -160,3 +161,9 @@ gives_as view (Err f) m n e (inr h) = inr (sym e ∙ h)
 pub shows_none : (r : Option (Bor Value)) (o : Option Tree) → is_some r ≡ false → option_map (λ v. tree v.now) r ≡ o → o ≡ None
 shows_none None o e h = sym h
 shows_none (Some v) o e h = Prim.cc e
+
+pub put_made_by : (path : List ℕ) (t d : Tree) (there : Option Tree) (r : Option Value) (w : Effect) → there ≡ at t (parts path) → t ≡ d → Puts there (Ok r) (made path w there)
+    → put_made path d (Ok (option_map tree r)) ≡ put_made path d (made path w (at d (parts path)))
+put_made_by path t d there r w e q h =
+    let is : there ≡ at d (parts path) = e ∙ ap (λ u. at u (parts path)) q in
+    put_made_as path d r (made path w (at d (parts path))) (subst (λ o. Puts o (Ok r) (made path w o)) is h)

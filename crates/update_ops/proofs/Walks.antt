@@ -1,5 +1,5 @@
 -- Steps through lists.
-use Rattle.std.proofs.Common.{◌≡◌, ◌+◌, ◌<◌, ◌↔◌, inl, inr, ℕ, zero, suc, Bool, true, false, List, [], ◌∷◌, ◌++◌, ◌||◌, ◌&&◌, if◌then◌else◌, take, drop, Option, Some, None, Result, Ok, Err, refl, sym, ◌∙◌, ap, ap₂, slice_get, IsTrue, add-one, append_assoc, arith}
+use Rattle.std.proofs.Common.{◌≡◌, ◌+◌, ◌<◌, ◌↔◌, inl, inr, ℕ, zero, suc, Bool, true, false, List, [], ◌∷◌, ◌++◌, ◌||◌, ◌&&◌, if◌then◌else◌, take, drop, Option, Some, None, Result, Ok, Err, refl, sym, ◌∙◌, ap, ap₂, slice_get, IsTrue, add-one, append_assoc, arith, subst}
 use Rattle.std.specs.List.{list_any, list_all}
 use Rattle.std.proofs.lemmas.List.Folds.{list_all-append}
 use Rattle.std.proofs.Math.Seq.{drop-cons}
@@ -15,7 +15,7 @@ use Rattle.update_ops.specs.Reads.{Reads}
 use Rattle.std.specs.Prelude.{IfOk, IfErr, option_map, codes}
 use Rattle.json_tree.specs.View.{tree}
 use Rattle.json_tree.specs.declared.value.Value.{Value}
-use Rattle.update_ops.specs.Apply.{Gives, elements, listed}
+use Rattle.update_ops.specs.Apply.{Gives, Puts, elements, listed}
 use Rattle.update_ops.specs.declared.fault.UpdateFault.{UpdateFault}
 use Rattle.update_ops.specs.declared.fault.UpdateFault.TheVariants.{NoMemory}
 
@@ -38,6 +38,11 @@ pub gives_list : (r : Result (Option Value) UpdateFault) (f : List Tree → List
     → Gives (option_map tree) r (listed f (elements path (Some v)))
 gives_list (Ok x) f path v ts is ok err = ap (listed f) (elements_at path v ts is) ∙ ap Ok (sym ok)
 gives_list (Err e) f path v ts is ok err = inl err
+
+pub puts_list : (r : Result (Option Value) UpdateFault) (f : List Tree → List Tree) (path : List ℕ) (v : Tree) (ts : List Tree) → v ≡ Tree.list (elements_of ts)
+    → Puts (Some (Tree.list (elements_of ts))) r (Ok (Some (Tree.list (elements_of (f ts))))) → Puts (Some v) r (listed f (elements path (Some v)))
+puts_list r f path v ts is h =
+    subst (λ o. Puts o r (listed f (elements path (Some v)))) (ap Some (sym is)) (subst (Puts (Some (Tree.list (elements_of ts))) r) (sym (ap (listed f) (elements_at path v ts is))) h)
 
 -- ---- elements copied up to a place
 

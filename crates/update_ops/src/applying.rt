@@ -17,7 +17,7 @@ use crate::making::{greater, increased, lesser, multiplied};
 use crate::update::{Applied, Clause, Effect, Updates};
 use doc_limits::check;
 use doc_paths::Path;
-use json_tree::{Doc, Value};
+use json_tree::{Doc, Value, same_decides};
 use std::alloc::Global;
 
 /// What an operator whose effect depends on the value at the path puts there. None: nothing, or the value
@@ -193,9 +193,11 @@ fn applied(alloc: Global, old: &Doc, new: Value) -> Result<Applied, UpdateFault>
 /// A copy of the old document, which shares its value.
 fn unchanged(alloc: Global, old: &Doc) -> Result<Applied, UpdateFault>
     ensures doc { IfOk result (λ a. a.doc ≡ old.now) }
-    ensures changed { IfOk result (λ a. a.changed ≡ false) }
+    ensures not { IfOk result (λ a. a.changed ≡ false) }
+    ensures changed { IfOk result (λ a. a.changed ≡ is_changed old.now a.doc) }
     ensures err { IfErr result (λ e. e ≡ NoMemory) }
 {
+    same_decides();
     match old.try_copy(alloc) {
         Ok(doc) => Ok(Applied {
             doc,

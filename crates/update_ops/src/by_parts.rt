@@ -148,10 +148,8 @@ fn add(all: &mut Vec<Listed>, one: Listed) -> Result<(), UpdateFault>
     ensures ok { OnOk result (all.new.items ≡ all.old.items ++ one ∷ []) }
     ensures err { IfErr result (λ e. e ≡ NoMemory) }
 {
-    match all.push(one) {
-        Ok(()) => Ok(()),
-        Err(_) => Err(UpdateFault::NoMemory),
-    }
+    all.push(one)?;
+    Ok(())
 }
 
 /// The paths in the order of their parts.
@@ -228,8 +226,6 @@ pub(crate) fn likely_end(alloc: Global, sorted: &[Listed]) -> Result<usize, Upda
 fn pass(passed: &mut Vec<Passed>, one: Passed) -> Result<(), UpdateFault>
     ensures err { IfErr result (λ e. e ≡ NoMemory) }
 {
-    match passed.push(one) {
-        Ok(()) => Ok(()),
-        Err(_) => Err(UpdateFault::NoMemory),
-    }
+    passed.push(one)?;
+    Ok(())
 }

@@ -1,6 +1,10 @@
 // Why an update is refused.
+ghost use Rattle.std.specs.Prelude.{◌≡◌};
+ghost use Rattle.update_ops.specs.declared.fault.UpdateFault.TheVariants as fault;
+
 use doc_limits::Broken;
 use json_tree::Text;
+use std::alloc::{AllocError, AllocFailed};
 use thiserror::Error;
 
 /// Why a value is no update, or why an update of a document is refused.
@@ -30,4 +34,20 @@ pub enum UpdateFault {
     /// Want of memory.
     #[error("no memory")]
     NoMemory,
+}
+
+impl<T: Drop> From<AllocFailed<T>> for UpdateFault {
+    ghost from_gives = { λ _ e. e ≡ fault.NoMemory };
+
+    fn from(_refused: AllocFailed<T>) -> UpdateFault {
+        UpdateFault::NoMemory
+    }
+}
+
+impl From<AllocError> for UpdateFault {
+    ghost from_gives = { λ _ e. e ≡ fault.NoMemory };
+
+    fn from(_refused: AllocError) -> UpdateFault {
+        UpdateFault::NoMemory
+    }
 }

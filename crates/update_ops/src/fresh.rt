@@ -6,7 +6,7 @@ ghost use Rattle.json_tree.specs.View.{tree};
 ghost use Rattle.json_tree.specs.Same.{same};
 ghost use Rattle.json_text.specs.Print.{text_of};
 ghost use Rattle.update_ops.specs.View.{trees};
-ghost use Rattle.update_ops.specs.Apply.{added};
+ghost use Rattle.update_ops.specs.Apply.{added, added_one};
 ghost use Rattle.update_ops.specs.Seen.{are_seen};
 ghost use Rattle.update_ops.specs.declared.fault.UpdateFault.TheVariants.{NoMemory};
 
@@ -47,10 +47,23 @@ fn add<'a>(values: &mut Vec<&'a Value>, value: &'a Value) -> Result<(), UpdateFa
     ensures ok { OnOk result (trees values.new.items ≡ trees values.old.items ++ tree value.now ∷ []) }
     ensures err { IfErr result (λ e. e ≡ NoMemory) }
 {
-    match values.push(value) {
-        Ok(()) => Ok(()),
-        Err(_) => Err(UpdateFault::NoMemory),
+    values.push(value)?;
+    Ok(())
+}
+
+/// Adds a value, unless an element or a value before it is the same.
+fn add_new<'a>(
+    elements: &[Value],
+    fresh: &mut Vec<&'a Value>,
+    value: &'a Value,
+) -> Result<(), UpdateFault>
+    ensures ok { OnOk result (map tree elements.now ++ trees fresh.new.items ≡ added_one (tree value.now) (map tree elements.now ++ trees fresh.old.items)) }
+    ensures err { IfErr result (λ e. e ≡ NoMemory) }
+{
+    if has_either(elements, fresh.as_slice(), value) {
+        return Ok(());
     }
+    add(fresh, value)
 }
 
 fn fresh_of_few<'a>(
@@ -63,9 +76,7 @@ fn fresh_of_few<'a>(
 {
     let mut fresh = Vec::new(alloc);
     for value in values {
-        if !has_either(elements, fresh.as_slice(), value) {
-            add(&mut fresh, value)?;
-        }
+        add_new(elements, &mut fresh, value)?;
     }
     Ok(fresh)
 }
@@ -87,21 +98,13 @@ fn text_of(alloc: Global, value: &Value) -> Result<String, UpdateFault>
     }
 }
 
-/// Keeps the text of a value that has a place.
-fn note(
-    alloc: Global,
-    seen: &mut BTreeMap<String, usize>,
-    value: &Value,
-    place: usize,
-) -> Result<(), UpdateFault>
-    ensures all { OnOk result ((ts : List Tree) → are_seen seen.old ts ≡ true → are_seen seen.new (ts ++ tree value.now ∷ []) ≡ true) }
+/// Keeps a text with a place.
+fn note(seen: &mut BTreeMap<String, usize>, text: String, place: usize) -> Result<(), UpdateFault>
+    ensures all { OnOk result ((ts : List Tree) (x : Tree) → string_bytes text ≡ text_of x → are_seen seen.old ts ≡ true → are_seen seen.new (ts ++ x ∷ []) ≡ true) }
     ensures err { IfErr result (λ e. e ≡ NoMemory) }
 {
-    let text = text_of(alloc, value)?;
-    match seen.insert(text, place) {
-        Ok(_) => Ok(()),
-        Err(_) => Err(UpdateFault::NoMemory),
-    }
+    seen.insert(text, place)?;
+    Ok(())
 }
 
 /// The texts of elements, with their places.
@@ -111,7 +114,8 @@ fn texts_of(alloc: Global, elements: &[Value]) -> Result<BTreeMap<String, usize>
 {
     let mut seen = BTreeMap::new(alloc);
     for i in 0..elements.len() {
-        note(alloc, &mut seen, &elements[i], i)?;
+        let text = text_of(alloc, &elements[i])?;
+        note(&mut seen, text, i)?;
     }
     Ok(seen)
 }
@@ -131,22 +135,42 @@ fn is_at(elements: &[Value], more: &[&Value], place: usize, value: &Value) -> bo
 
 /// Whether a value is among those whose texts are kept.
 fn is_seen(
-    alloc: Global,
     seen: &BTreeMap<String, usize>,
+    text: &str,
     elements: &[Value],
     more: &[&Value],
     value: &Value,
-) -> Result<bool, UpdateFault>
-    requires { are_seen seen.now (map tree elements.now ++ trees more.now) ≡ true }
-    ensures ok { IfOk result (λ b. b ≡ list_any (λ t. same t (tree value.now)) (map tree elements.now ++ trees more.now)) }
-    ensures err { IfErr result (λ e. e ≡ NoMemory) }
+) -> bool
+    requires text { text.now ≡ text_of (tree value.now) }
+    requires seen { are_seen seen.now (map tree elements.now ++ trees more.now) ≡ true }
+    ensures { result ≡ list_any (λ t. same t (tree value.now)) (map tree elements.now ++ trees more.now) }
 {
     same_decides();
-    let text = text_of(alloc, value)?;
-    match seen.get(text.as_str()) {
-        Some(place) => Ok(is_at(elements, more, *place, value) || has_either(elements, more, value)),
-        None => Ok(false),
+    match seen.get(text) {
+        Some(place) => is_at(elements, more, *place, value) || has_either(elements, more, value),
+        None => false,
     }
+}
+
+/// Adds a value and its text, unless an element or a value before it is the same.
+fn add_unseen<'a>(
+    alloc: Global,
+    seen: &mut BTreeMap<String, usize>,
+    elements: &[Value],
+    fresh: &mut Vec<&'a Value>,
+    value: &'a Value,
+) -> Result<(), UpdateFault>
+    requires { are_seen seen.old (map tree elements.now ++ trees fresh.old.items) ≡ true }
+    ensures seen { OnOk result (are_seen seen.new (map tree elements.now ++ trees fresh.new.items) ≡ true) }
+    ensures ok { OnOk result (map tree elements.now ++ trees fresh.new.items ≡ added_one (tree value.now) (map tree elements.now ++ trees fresh.old.items)) }
+    ensures err { IfErr result (λ e. e ≡ NoMemory) }
+{
+    let text = text_of(alloc, value)?;
+    if is_seen(seen, text.as_str(), elements, fresh.as_slice(), value) {
+        return Ok(());
+    }
+    note(seen, text, elements.len().saturating_add(fresh.len()))?;
+    add(fresh, value)
 }
 
 fn fresh_of_many<'a>(
@@ -160,11 +184,7 @@ fn fresh_of_many<'a>(
     let mut seen = texts_of(alloc, elements)?;
     let mut fresh = Vec::new(alloc);
     for value in values {
-        if !is_seen(alloc, &seen, elements, fresh.as_slice(), value)? {
-            let place = elements.len().saturating_add(fresh.len());
-            note(alloc, &mut seen, value, place)?;
-            add(&mut fresh, value)?;
-        }
+        add_unseen(alloc, &mut seen, elements, &mut fresh, value)?;
     }
     Ok(fresh)
 }

@@ -33,10 +33,8 @@ fn add_path(alloc: Global, paths: &mut Vec<Path>, path: &Path) -> Result<(), Upd
     ensures err { IfErr result (λ e. e ≡ NoMemory) }
 {
     let path = copy_path(alloc, path)?;
-    match paths.push(path) {
-        Ok(()) => Ok(()),
-        Err(_) => Err(UpdateFault::NoMemory),
-    }
+    paths.push(path)?;
+    Ok(())
 }
 
 fn add_new_path(alloc: Global, paths: &mut Vec<Path>, what: &Effect) -> Result<(), UpdateFault>

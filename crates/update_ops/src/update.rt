@@ -119,10 +119,8 @@ pub(crate) fn add(clauses: &mut Vec<Clause>, clause: Clause) -> Result<(), Updat
     ensures ok { OnOk result (clauses.new.items ≡ clauses.old.items ++ clause ∷ []) }
     ensures err { IfErr result (λ e. e ≡ NoMemory) }
 {
-    match clauses.push(clause) {
-        Ok(()) => Ok(()),
-        Err(_) => Err(UpdateFault::NoMemory),
-    }
+    clauses.push(clause)?;
+    Ok(())
 }
 
 fn copy_clauses(alloc: Global, clauses: &[Clause]) -> Result<Vec<Clause>, UpdateFault>
