@@ -196,7 +196,9 @@ struct Passed {
 fn last_over(passed: &mut Vec<Passed>, sorted: &[Listed], path: &Path) -> Option<usize> {
     'passed: while let Some(last) = passed.last() {
         let last = *last;
-        if let Some(before) = sorted.get(last.at) && overlap(before.path(), path) {
+        if let Some(before) = sorted.get(last.at)
+            && overlap(before.path(), path)
+        {
             return Some(last.least);
         }
         passed.pop();

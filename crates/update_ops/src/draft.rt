@@ -46,12 +46,7 @@ fn is_there(path: &Path, value: &Value, new: &Value) -> bool
     }
 }
 
-fn put_into(
-    alloc: Global,
-    path: &Path,
-    value: &mut Value,
-    new: Value,
-) -> Result<(), UpdateFault>
+fn put_into(alloc: Global, path: &Path, value: &mut Value, new: Value) -> Result<(), UpdateFault>
     ensures { Gives (λ _. tree value.new) result (put_at path.now (tree new) (tree value.old)) }
 {
     match path.put_at(alloc, value, new) {
@@ -138,12 +133,7 @@ pub(crate) fn unset(
     Ok(Some(value))
 }
 
-fn move_inside(
-    alloc: Global,
-    path: &Path,
-    value: &mut Value,
-    to: &Path,
-) -> Result<(), UpdateFault>
+fn move_inside(alloc: Global, path: &Path, value: &mut Value, to: &Path) -> Result<(), UpdateFault>
     ensures { Gives (λ _. tree value.new) result (moved path.now to.now (tree value.old) (at (tree value.old) (parts path.now))) }
 {
     match path.take_at(alloc, value) {

@@ -147,11 +147,7 @@ fn extended(alloc: Global, items: &Items, values: &[&Value]) -> Result<Value, Up
     Ok(Value::List(out))
 }
 
-fn add_to_list(
-    alloc: Global,
-    items: &Items,
-    values: &Items,
-) -> Result<Option<Value>, UpdateFault>
+fn add_to_list(alloc: Global, items: &Items, values: &Items) -> Result<Option<Value>, UpdateFault>
     ensures { Puts (Some (list (elements_of items.now))) result (Ok (Some (list (elements_of (added values.now items.now))))) }
 {
     let values = fresh(alloc, items.as_slice(), values.as_slice())?;

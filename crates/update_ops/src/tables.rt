@@ -1,9 +1,11 @@
 // Updates, each with what it makes of a document: the new one, or `same`. Refused ones, with the fault.
-pub(crate) const ORDER: &str = r#"{"_id":"o","customer":{"name":"Ada","city":"London"},"items":[{"sku":"A-1","qty":2,"price":19.99},{"sku":"B-7","qty":1,"price":5}],"placed":{"$date":1700000000000},"paid":false,"note":null,"tags":[],"n":-1.5}"#;
+pub(crate) const ORDER: &str =
+    r#"{"_id":"o","customer":{"name":"Ada","city":"London"},"items":[{"sku":"A-1","qty":2,"price":19.99},{"sku":"B-7","qty":1,"price":5}],"placed":{"$date":1700000000000},"paid":false,"note":null,"tags":[],"n":-1.5}"#;
 
 pub(crate) const LISTS: &str = r#"{"_id":"l","v":[1,2,3],"e":[],"m":10000000000000000000}"#;
 
-pub(crate) const KINDS: &str = r#"{"_id":1,"z":null,"b":true,"f":false,"n":5,"t":"m","d":{"$date":0},"l":[1,"a",{"x":1},[2],null],"o":{"x":1,"y":{"z":2}}}"#;
+pub(crate) const KINDS: &str =
+    r#"{"_id":1,"z":null,"b":true,"f":false,"n":5,"t":"m","d":{"$date":0},"l":[1,"a",{"x":1},[2],null],"o":{"x":1,"y":{"z":2}}}"#;
 
 pub(crate) const SMALL: &str = r#"{"_id":"s","a":1}"#;
 
@@ -49,7 +51,8 @@ pub(crate) const OF_ORDER: &str = r#"{} => same
 {"$mul":{"visits":7}} => {"_id":"o","customer":{"name":"Ada","city":"London"},"items":[{"sku":"A-1","qty":2,"price":19.99},{"sku":"B-7","qty":1,"price":5}],"placed":{"$date":1700000000000},"paid":false,"note":null,"tags":[],"n":-1.5,"visits":0}
 {"$mul":{"items.1.price":0.1,"items.0.qty":-3}} => {"_id":"o","customer":{"name":"Ada","city":"London"},"items":[{"sku":"A-1","qty":-6,"price":19.99},{"sku":"B-7","qty":1,"price":0.5}],"placed":{"$date":1700000000000},"paid":false,"note":null,"tags":[],"n":-1.5}"#;
 
-pub(crate) const MORE_OF_ORDER: &str = r#"{"$min":{"n":-2}} => {"_id":"o","customer":{"name":"Ada","city":"London"},"items":[{"sku":"A-1","qty":2,"price":19.99},{"sku":"B-7","qty":1,"price":5}],"placed":{"$date":1700000000000},"paid":false,"note":null,"tags":[],"n":-2}
+pub(crate) const MORE_OF_ORDER: &str =
+    r#"{"$min":{"n":-2}} => {"_id":"o","customer":{"name":"Ada","city":"London"},"items":[{"sku":"A-1","qty":2,"price":19.99},{"sku":"B-7","qty":1,"price":5}],"placed":{"$date":1700000000000},"paid":false,"note":null,"tags":[],"n":-2}
 {"$min":{"n":-1.5}} => same
 {"$min":{"n":-1}} => same
 {"$max":{"n":-1}} => {"_id":"o","customer":{"name":"Ada","city":"London"},"items":[{"sku":"A-1","qty":2,"price":19.99},{"sku":"B-7","qty":1,"price":5}],"placed":{"$date":1700000000000},"paid":false,"note":null,"tags":[],"n":-1}
@@ -101,7 +104,8 @@ pub(crate) const MORE_OF_ORDER: &str = r#"{"$min":{"n":-2}} => {"_id":"o","custo
 {"$set":{"items.1.qty":1,"paid":false,"tags":[]},"$inc":{"n":0},"$addToSet":{"lot":{"sku":"A-1","qty":2,"price":19.99}}} => {"_id":"o","customer":{"name":"Ada","city":"London"},"items":[{"sku":"A-1","qty":2,"price":19.99},{"sku":"B-7","qty":1,"price":5}],"placed":{"$date":1700000000000},"paid":false,"note":null,"tags":[],"n":-1.5,"lot":[{"sku":"A-1","qty":2,"price":19.99}]}"#;
 
 // Of the lists.
-pub(crate) const OF_LISTS: &str = r#"{"$push":{"v":{"$each":[8,9],"$position":-1}}} => {"_id":"l","v":[1,2,8,9,3],"e":[],"m":10000000000000000000}
+pub(crate) const OF_LISTS: &str =
+    r#"{"$push":{"v":{"$each":[8,9],"$position":-1}}} => {"_id":"l","v":[1,2,8,9,3],"e":[],"m":10000000000000000000}
 {"$push":{"v":{"$position":-1,"$each":[8,9]}}} => {"_id":"l","v":[1,2,8,9,3],"e":[],"m":10000000000000000000}
 {"$push":{"v":{"$each":[8,9],"$position":0}}} => {"_id":"l","v":[8,9,1,2,3],"e":[],"m":10000000000000000000}
 {"$push":{"v":{"$each":[8,9],"$position":1}}} => {"_id":"l","v":[1,8,9,2,3],"e":[],"m":10000000000000000000}
@@ -151,7 +155,8 @@ pub(crate) const OF_LISTS: &str = r#"{"$push":{"v":{"$each":[8,9],"$position":-1
 {"$set":{"v":[]},"$push":{"e":{"$each":[1,2,3]}}} => {"_id":"l","v":[],"e":[1,2,3],"m":10000000000000000000}"#;
 
 // Of a document with values of each kind.
-pub(crate) const OF_KINDS: &str = r#"{"$min":{"n":null}} => {"_id":1,"z":null,"b":true,"f":false,"n":null,"t":"m","d":{"$date":0},"l":[1,"a",{"x":1},[2],null],"o":{"x":1,"y":{"z":2}}}
+pub(crate) const OF_KINDS: &str =
+    r#"{"$min":{"n":null}} => {"_id":1,"z":null,"b":true,"f":false,"n":null,"t":"m","d":{"$date":0},"l":[1,"a",{"x":1},[2],null],"o":{"x":1,"y":{"z":2}}}
 {"$max":{"n":null}} => same
 {"$min":{"n":"a"}} => same
 {"$max":{"n":"a"}} => {"_id":1,"z":null,"b":true,"f":false,"n":"a","t":"m","d":{"$date":0},"l":[1,"a",{"x":1},[2],null],"o":{"x":1,"y":{"z":2}}}
@@ -196,7 +201,8 @@ pub(crate) const OF_KINDS: &str = r#"{"$min":{"n":null}} => {"_id":1,"z":null,"b
 {"$currentDate":{"o":true}} => {"_id":1,"z":null,"b":true,"f":false,"n":5,"t":"m","d":{"$date":0},"l":[1,"a",{"x":1},[2],null],"o":{"$date":1700000000001}}"#;
 
 // On a new document.
-pub(crate) const OF_NEW: &str = r#"{"$setOnInsert":{"w":2},"$set":{"v":1}} => {"_id":"s","a":1,"v":1,"w":2}
+pub(crate) const OF_NEW: &str =
+    r#"{"$setOnInsert":{"w":2},"$set":{"v":1}} => {"_id":"s","a":1,"v":1,"w":2}
 {"$setOnInsert":{"a":1}} => same
 {"$setOnInsert":{"a":2,"b.c":[1]}} => {"_id":"s","a":2,"b":{"c":[1]}}
 {"$setOnInsert":{"w":2},"$min":{"m":7},"$currentDate":{"v":true}} => {"_id":"s","a":1,"m":7,"w":2,"v":{"$date":1700000000001}}

@@ -3,8 +3,8 @@ ghost use Rattle.json_tree.specs.View.{tree};
 ghost use Rattle.update_ops.specs.View.{clause_of, done_by};
 ghost use Rattle.update_ops.specs.declared.fault.UpdateFault.TheVariants.{NoMemory};
 
-use crate::fault::UpdateFault;
 use crate::copies::{copy, copy_items, copy_path};
+use crate::fault::UpdateFault;
 use doc_paths::Path;
 use json_tree::{Doc, Items, Num, Value};
 use std::alloc::Global;
