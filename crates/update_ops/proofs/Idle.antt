@@ -25,7 +25,7 @@ same_member_step : (name : List ℕ) (x : Tree) (p : List ℕ × Tree) (ps : Lis
 same_member_step name x p ps true e more = let q : p.1 ≡ x = Prim.cc e in ap (λ t. (p.0, t) ∷ ps) (sym q)
 same_member_step name x p ps false e more = ap (λ l. p ∷ l) (more e)
 
-same_member : (name : List ℕ) (x : Tree) (ps : List (List ℕ × Tree)) → member_at name ps ≡ Some x → put_member name x ps ≡ ps
+pub same_member : (name : List ℕ) (x : Tree) (ps : List (List ℕ × Tree)) → member_at name ps ≡ Some x → put_member name x ps ≡ ps
 same_member name x [] e = Prim.cc e
 same_member name x (p ∷ ps) e = same_member_step name x p ps (bytes_eq p.0 name) e (same_member name x ps)
 
@@ -40,12 +40,12 @@ no_member name (p ∷ ps) e = no_member_step name p ps (bytes_eq p.0 name) e (no
 
 -- ---- elements
 
-same_element : (ts : List Tree) (i : ℕ) (x : Tree) → slice_get ts i ≡ Some x → slice_set ts i x ≡ ts
+pub same_element : (ts : List Tree) (i : ℕ) (x : Tree) → slice_get ts i ≡ Some x → slice_set ts i x ≡ ts
 same_element [] i x e = refl
 same_element (t ∷ ts) zero x e = let q : t ≡ x = Prim.cc e in ap (λ u. u ∷ ts) (sym q)
 same_element (t ∷ ts) (suc i) x e = ap (λ l. t ∷ l) (same_element ts i x e)
 
-within : (ts : List Tree) (i : ℕ) (x : Tree) → slice_get ts i ≡ Some x → i < length ts
+pub within : (ts : List Tree) (i : ℕ) (x : Tree) → slice_get ts i ≡ Some x → i < length ts
 within [] i x e = Prim.cc e
 within (t ∷ ts) zero x e = omega arith
 within (t ∷ ts) (suc i) x e = omega (arith, within ts i x e)

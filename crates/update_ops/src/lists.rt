@@ -1,5 +1,5 @@
 // What operators on lists put in the place of the value at a path.
-ghost use Rattle.std.specs.Prelude.{◌≡◌, ◌≤◌, ◌<◌, ◌++◌, ◌∷◌, [], length, take, drop, option_map, IfOk, IfErr, OnOk, Ok, Some};
+ghost use Rattle.std.specs.Prelude.{◌≡◌, ◌≤◌, ◌<◌, ◌-◌, ◌++◌, ◌∷◌, [], length, take, drop, option_map, IfOk, IfErr, OnOk, Ok, Some};
 ghost use Rattle.json_tree.specs.Tree.{list, elements_of};
 ghost use Rattle.json_tree.specs.View.{tree};
 ghost use Rattle.update_ops.specs.Apply.{Gives, Puts, elements, listed, place_in, pushed, added, popped, shortened};
@@ -47,6 +47,17 @@ fn push_copy(alloc: Global, out: &mut Items, item: &Value) -> Result<(), UpdateF
     }
 }
 
+fn place_from_end(len: usize, back: u64) -> usize
+    ensures { result ≡ len - back }
+{
+    if back < len as u64 {
+        len - back as usize
+    } else {
+        0
+    }
+}
+
+/// The place before which values go: at most the length; a negative one counts from the end.
 fn place_in(len: usize, place: Option<i64>) -> usize
     ensures value { result ≡ place_in len place }
     ensures within { result ≤ len }
@@ -54,20 +65,13 @@ fn place_in(len: usize, place: Option<i64>) -> usize
     match place {
         None => len,
         Some(k) => {
-            if k >= 0 {
-                if (k as u64) < len as u64 {
-                    k as usize
-                } else {
-                    len
-                }
-            } else {
-                let back = k.unsigned_abs();
-                if back < len as u64 {
-                    len - back as usize
-                } else {
-                    0
-                }
+            if k < 0 {
+                return place_from_end(len, k.unsigned_abs());
             }
+            if (k as u64) < len as u64 {
+                return k as usize;
+            }
+            len
         }
     }
 }
