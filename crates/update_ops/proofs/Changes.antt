@@ -1,5 +1,5 @@
 -- Whether a document differs.
-use Rattle.std.proofs.Common.{◌≡◌, ◌↔◌, false, not, IsTrue, sym, ◌∙◌, ap}
+use Rattle.std.proofs.Common.{◌≡◌, ◌↔◌, false, not, IsTrue, sym, ap}
 use Rattle.json_tree.specs.Tree.{Tree}
 use Rattle.json_tree.specs.Same.{same}
 use Rattle.update_ops.specs.Apply.{is_changed}

@@ -1,10 +1,10 @@
 -- Where the same value is there, and where there is none to take, nothing changes.
-use Rattle.std.proofs.Common.{◌≡◌, ◌⊎◌, inl, inr, ◌<◌, ◌-◌, ℕ, zero, suc, Bool, true, false, cond, nat_lt, nat_le, ◌||◌, List, [], ◌∷◌, ◌++◌, length, replicate, Option, Some, None, option_and_then, option_map, Result, Ok, Err, refl, sym, ◌∙◌, ap, arith, slice_get, slice_set, subst}
+use Rattle.std.proofs.Common.{◌≡◌, inl, inr, ◌<◌, ◌-◌, ℕ, zero, suc, Bool, true, false, cond, nat_lt, nat_le, ◌||◌, List, [], ◌∷◌, ◌++◌, length, replicate, Option, Some, None, option_and_then, option_map, Result, Ok, Err, refl, sym, ◌∙◌, ap, arith, slice_get, slice_set, subst}
 use Rattle.std.specs.Str.{bytes_eq}
 use Rattle.std.proofs.lemmas.Bool.{lt-ltb}
 use Rattle.std.specs.Prelude.{is_some}
 use denote.Ref.{Bor}
-use Rattle.json_tree.specs.Tree.{Tree, null, boolean, number, text, date, list, object, Elements, Members, elements_of, members_of, list_of_elements, list_of_members}
+use Rattle.json_tree.specs.Tree.{Tree, null, boolean, number, text, date, list, object, elements_of, members_of, list_of_elements, list_of_members}
 use Rattle.json_tree.specs.Members.{member_at, put_member, without_member}
 use Rattle.json_tree.specs.RoundTrips.{elements_of-list_of_elements, members_of-list_of_members}
 use Rattle.json_tree.specs.View.{tree}

@@ -1,5 +1,5 @@
 -- In the order of parts, paths of which none overlaps the next one don't overlap at all.
-use Rattle.std.proofs.Common.{◌≡◌, ◌<◌, ◌+◌, ◌⊎◌, inl, inr, ℕ, zero, suc, Bool, true, false, ◌||◌, ◌&&◌, List, [], ◌∷◌, ◌++◌, length, get_or, add-one, take, drop, cond, append_assoc, subst, Option, Some, None, refl, sym, ◌∙◌, ap, ap₂, arith, slice_get}
+use Rattle.std.proofs.Common.{◌≡◌, ◌<◌, ◌⊎◌, inl, inr, ℕ, suc, Bool, true, false, ◌||◌, ◌&&◌, List, [], ◌∷◌, ◌++◌, length, get_or, add-one, take, drop, cond, append_assoc, subst, Option, Some, None, refl, sym, ◌∙◌, ap, ap₂, arith}
 use Rattle.std.specs.List.{find, IsDistinct, AllByRecursion, AllAdjacentBelow}
 use Rattle.std.specs.List.Sorted.{IsSorted, IsPermutation}
 use Rattle.std.specs.Option.{option_or, option_map}

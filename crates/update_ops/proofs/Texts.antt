@@ -1,8 +1,7 @@
 -- Values of which a list has none, by the texts of those that it has.
-use Rattle.std.proofs.Common.{◌≡◌, ◌<◌, ◌↔◌, ℕ, zero, suc, Bool, true, false, cond, ◌||◌, ◌&&◌, List, [], ◌∷◌, ◌++◌, map, length, get_or, Option, Some, None, is_some, refl, sym, ◌∙◌, ap, ap₂, arith, slice_get, IsTrue}
+use Rattle.std.proofs.Common.{◌≡◌, ◌<◌, ◌↔◌, ℕ, zero, suc, Bool, true, false, cond, ◌||◌, ◌&&◌, List, [], ◌∷◌, ◌++◌, map, length, get_or, Option, Some, None, is_some, refl, sym, ◌∙◌, ap, ap₂, arith, IsTrue}
 use Rattle.std.specs.List.{list_any, list_all}
 use Rattle.std.specs.Str.{bytes_eq}
-use Rattle.std.specs.BTreeMap.{BTreeMap, get_by_text}
 use Rattle.std.proofs.lemmas.Bool.{and_parts}
 use Rattle.std.proofs.lemmas.Slice.Eq.{bytes_eq-Decides}
 use denote.Ref.{Bor}
@@ -12,7 +11,6 @@ use Rattle.json_tree.specs.Same.{same}
 use Rattle.json_tree.specs.declared.value.Value.{Value}
 use Rattle.json_text.specs.Print.{text_of}
 use Rattle.update_ops.specs.View.{trees}
-use Rattle.update_ops.specs.Seen.{are_seen}
 
 -- ---- a value that is found at its place
 

@@ -1,14 +1,13 @@
 -- Updates of one operator on one path: what they show, and what they make a second time.
-use Rattle.std.proofs.Common.{◌≡◌, ◌<◌, ◌^◌, ◌↔◌, ℕ, zero, suc, ℤ, nat_abs, nat_lt, neg_ℤ, ◌+ℤ◌, Bool, true, false, cond, ◌||◌, ◌&&◌, List, [], ◌∷◌, ◌++◌, length, Option, Some, None, Result, Ok, Err, refl, sym, ◌∙◌, ap, ap₂, arith, IsTrue, subst}
+use Rattle.std.proofs.Common.{◌≡◌, ◌<◌, ◌^◌, ◌↔◌, ℕ, ℤ, nat_abs, nat_lt, neg_ℤ, ◌+ℤ◌, Bool, true, false, cond, ◌||◌, ◌&&◌, List, [], ◌∷◌, ◌++◌, Option, Some, None, Result, Ok, Err, refl, sym, ◌∙◌, ap, ap₂, IsTrue}
 use Rattle.std.specs.Prelude.{if◌then◌else◌}
 use Rattle.std.specs.List.{list_any, list_all}
 use Rattle.std.proofs.lemmas.Bool.{and_parts, lt-ltb}
-use Rattle.std.specs.declared.cmp.Ordering.{Ordering}
 use Rattle.std.specs.declared.cmp.Ordering.TheVariants.{Equal}
-use Rattle.std.specs.Ordering.{is_lt, is_gt, nat_cmp, int_cmp, bool_cmp}
+use Rattle.std.specs.Ordering.{is_lt, is_gt}
 use Rattle.std.specs.Cmp.{bool_cmp_total}
 use Rattle.std.proofs.lemmas.Cmp.{tied_itself, lists_total, nat_cmp_total, int_cmp_total}
-use Rattle.json_tree.specs.Tree.{Tree, null, boolean, number, text, date, list, object, elements_of, list_of_elements}
+use Rattle.json_tree.specs.Tree.{Tree, null, boolean, number, text, date, list, object, elements_of}
 use Rattle.json_tree.specs.RoundTrips.{list_of_elements-elements_of}
 use Rattle.json_tree.specs.Same.{same}
 use Rattle.doc_paths.specs.Text.{parts}
@@ -19,10 +18,10 @@ use Rattle.doc_limits.specs.Limits.{broken}
 use Rattle.doc_limits.specs.declared.limits.Broken.{Broken}
 use Rattle.update_ops.specs.Clauses.{Effect, set, unset, inc, rename, add_to_set, set_on_insert, current_date, Clause}
 use Rattle.update_ops.specs.Clauses as e
-use Rattle.update_ops.specs.Order.{scalar_cmp, rank}
+use Rattle.update_ops.specs.Order.{scalar_cmp}
 use Rattle.update_ops.specs.Forms.{is_scalar}
 use Rattle.json_tree.specs.Num.{sum_of}
-use Rattle.update_ops.specs.Apply.{put_or, put_at, put_made, moved, made, number_or, increased, bounded, elements, listed, added, added_one, effect, onward, applied, unbroken, within_limits, apply}
+use Rattle.update_ops.specs.Apply.{put_or, put_at, put_made, moved, number_or, increased, bounded, elements, listed, added, added_one, effect, onward, applied, unbroken, within_limits, apply}
 use Rattle.update_ops.specs.declared.fault.UpdateFault.{UpdateFault}
 use Rattle.update_ops.specs.declared.fault.UpdateFault.TheVariants.{WrongTarget}
 use Rattle.update_ops.proofs.Idle.{put_there, without_none}
@@ -37,7 +36,7 @@ pub record Made (d new : Tree) (path : List ℕ) (w : Effect) (moment : ℤ) (on
   pub made : effect moment on_insert path w d ≡ Ok new
   pub sound : broken new ≡ None
 
-limits_made : (o : Option Broken) (u new : Tree) → unbroken o u ≡ Ok new → (u ≡ new) × (o ≡ None)
+pub limits_made : (o : Option Broken) (u new : Tree) → unbroken o u ≡ Ok new → (u ≡ new) × (o ≡ None)
 limits_made None u new h = (Prim.cc h, refl)
 limits_made (Some b) u new h = Prim.cc h
 
@@ -62,10 +61,10 @@ again path w d new moment on_insert h second = let m = was_made path w d new mom
 
 -- ---- what is put
 
-abbrev Seen : Type 0
+abbrev pub Seen : Type 0
 Seen = (passed : ℕ) (t new x : Tree) (path : List (List ℕ)) → put passed t path x ≡ Ok new → at new path ≡ Some x
 
-put_ok : (path : List ℕ) (r : Result Tree PathFault) (new : Tree) → put_or path r ≡ Ok new → r ≡ Ok new
+pub put_ok : (path : List ℕ) (r : Result Tree PathFault) (new : Tree) → put_or path r ≡ Ok new → r ≡ Ok new
 put_ok path (Ok t) new h = ap Ok (Prim.cc h)
 put_ok path (Err f) new h = Prim.cc h
 
@@ -81,7 +80,7 @@ inserted_twice seen path x d new moment false h = refl
 
 -- ---- bounds
 
-tied : (x : Tree) → is_scalar x ≡ true → scalar_cmp x x ≡ Equal
+pub tied : (x : Tree) → is_scalar x ≡ true → scalar_cmp x x ≡ Equal
 tied null h = refl
 tied (boolean b) h = tied_itself bool_cmp_total b
 tied (number n) h = tied_itself int_cmp_total n
@@ -120,10 +119,10 @@ greatest_twice seen path x d new moment on_insert scalar h = bounded_step seen p
 
 -- ---- values added to a list
 
-abbrev Alike : Type 0
+abbrev pub Alike : Type 0
 Alike = (a b : Tree) → IsTrue (same a b) ↔ (a ≡ b)
 
-abbrev has : Tree → List Tree → Bool
+abbrev pub has : Tree → List Tree → Bool
 has x ts = list_any (λ t. same t x) ts
 
 either_more : (b c d : Bool) → (b || c) ≡ true → (c ≡ true → d ≡ true) → (b || d) ≡ true
@@ -161,11 +160,11 @@ has_kept : (x : Tree) (ys ts : List Tree) → has x ts ≡ true → has x (added
 has_kept x [] ts h = h
 has_kept x (y ∷ ys) ts h = has_kept x ys (added_one y ts) (has_more x y ts h)
 
-has_all : Alike → (xs ts : List Tree) → list_all (λ x. has x (added xs ts)) xs ≡ true
+pub has_all : Alike → (xs ts : List Tree) → list_all (λ x. has x (added xs ts)) xs ≡ true
 has_all alike [] ts = refl
 has_all alike (x ∷ xs) ts = ap₂ (λ a b. a && b) (has_kept x xs (added_one x ts) (has_new alike x ts)) (has_all alike xs (added_one x ts))
 
-nothing_new : (xs ts : List Tree) → list_all (λ x. has x ts) xs ≡ true → added xs ts ≡ ts
+pub nothing_new : (xs ts : List Tree) → list_all (λ x. has x ts) xs ≡ true → added xs ts ≡ ts
 nothing_new [] ts h = refl
 nothing_new (x ∷ xs) ts h =
     let s = and_parts (has x ts) (list_all (λ y. has y ts) xs) h in

@@ -7,6 +7,10 @@ ghost use Rattle.doc_paths.specs.Text.{parts};
 ghost use Rattle.doc_paths.specs.At.{at, inside};
 ghost use Rattle.doc_limits.specs.Limits.{broken};
 ghost use Rattle.update_ops.specs.Forms.{is_scalar};
+ghost use Rattle.update_ops.specs.Clauses.{Clause};
+ghost use Rattle.update_ops.specs.Steady.{are_steady};
+ghost use Rattle.update_ops.specs.Faults.{overlap_in, paths_of};
+ghost use Rattle.update_ops.specs.Apply.{apply};
 ghost use Rattle.update_ops.specs.Single.{alone};
 
 use doc_paths::{puts_are_seen, takes_are_seen};
@@ -47,6 +51,15 @@ pub fn twice_is_once()
     ensures dated { (path : List ℕ) (x d new : Tree) (moment : ℤ) (on_insert : Bool) → alone (codes "$currentDate") path x moment on_insert d ≡ Ok new → alone (codes "$currentDate") path x moment on_insert new ≡ Ok new }
     ensures unset { (path : List ℕ) (x d new : Tree) (moment : ℤ) (on_insert : Bool) → at new (parts path) ≡ None → alone (codes "$unset") path x moment on_insert d ≡ Ok new → alone (codes "$unset") path x moment on_insert new ≡ Ok new }
     ensures renamed { (path : List ℕ) (x d new : Tree) (moment : ℤ) (on_insert : Bool) → at new (parts path) ≡ None → alone (codes "$rename") path x moment on_insert d ≡ Ok new → alone (codes "$rename") path x moment on_insert new ≡ Ok new }
+{
+    puts_are_seen();
+    same_decides();
+}
+
+/// A whole update of `$set`, `$setOnInsert`, `$min`, `$max`, `$addToSet` and `$currentDate` whose paths don't
+/// overlap does nothing a second time, at the same moment.
+pub fn steady_updates_settle()
+    ensures { (cs : List Clause) (d new : Tree) (moment : ℤ) (on_insert : Bool) → are_steady cs ≡ true → overlap_in [] (paths_of cs) ≡ None → apply cs d moment on_insert ≡ Ok new → apply cs new moment on_insert ≡ Ok new }
 {
     puts_are_seen();
     same_decides();

@@ -19,7 +19,9 @@ mod rows;
 mod update;
 
 pub use fault::UpdateFault;
-pub use laws::{increments_are_undone, sets_are_seen, twice_is_once, unsets_are_seen};
+pub use laws::{
+    increments_are_undone, sets_are_seen, steady_updates_settle, twice_is_once, unsets_are_seen,
+};
 pub use operator::Operator;
 pub use rows::{documents_are_made, operators_work, paths_conflict};
 pub use update::{Applied, Clause, Effect, Updates};

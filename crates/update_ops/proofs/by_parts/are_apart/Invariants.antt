@@ -1,4 +1,4 @@
-use Rattle.std.proofs.Common.{◌≡◌, ◌<◌, ◌≤◌, false}
+use Rattle.std.proofs.Common.{◌≡◌, false}
 use Rattle.std.specs.List.{AllAdjacentBelow}
 use Rattle.update_ops.specs.Faults.{overlap}
 use Rattle.update_ops.proofs.by_parts.are_apart.Given as goal

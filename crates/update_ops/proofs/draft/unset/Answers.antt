@@ -1,6 +1,5 @@
-use Rattle.std.proofs.Common.{Ok, None, option_map, sym, ◌≡◌, ◌∙◌, ap}
+use Rattle.std.proofs.Common.{Ok, ap}
 use Rattle.json_tree.specs.View.{tree}
-use Rattle.doc_paths.specs.At.{at}
 use Rattle.doc_paths.specs.Text.{parts}
 use Rattle.update_ops.specs.View.{standing}
 use Rattle.update_ops.proofs.Idle.{without_none, shows_none}

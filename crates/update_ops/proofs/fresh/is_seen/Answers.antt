@@ -1,7 +1,6 @@
 use Rattle.std.proofs.Common.{option_copied, sym, ◌∙◌, ap, map, ◌++◌, None, ◌≡◌}
 use Rattle.std.specs.BTreeMap.{get_by_text}
 use Rattle.json_tree.specs.View.{tree}
-use Rattle.json_text.specs.Print.{text_of}
 use Rattle.update_ops.specs.View.{trees}
 use Rattle.update_ops.proofs.Texts.{unseen}
 use Rattle.update_ops.proofs.fresh.is_seen.Goals as goal
