@@ -51,8 +51,11 @@ fn shown(alloc: Global, fault: &UpdateFault) -> Result<String, Fail> {
 
 fn document(alloc: Global, text: &str) -> Result<Doc, Fail> {
     let value = read_value(alloc, text.as_bytes())?;
-    if !value.is_document() {
-        return Err(Fail::new("no document"));
+    if !value.has_id_member() {
+        return Err(Fail::new("no id"));
+    }
+    if value.has_dollar_name() {
+        return Err(Fail::new("a name with a dollar"));
     }
     Ok(Doc::of_value(alloc, value)?)
 }
