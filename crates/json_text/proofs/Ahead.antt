@@ -224,6 +224,22 @@ pub object_empty : (l : ℕ) (v : Tree) (bs rest : List ℕ) → v ≡ object_va
 unfolding step
 object_empty l v bs rest is e = subst (λ w. Closes first_name l bs w rest) (sym is) (closing l first_name first_name end_object bs bs (object_value []) rest (λ slot outer. refl) (goes_nowhere l first_name bs) e)
 
+pub colon_first : (front rest : List ℕ) → front ≡ 58 ∷ rest → (name_separator, rest) ≡ token_at front
+unfolding token_at
+colon_first front rest e = sym (ap token_at e)
+
+pub comma_first : (front rest : List ℕ) → front ≡ 44 ∷ rest → (value_separator, rest) ≡ token_at front
+unfolding token_at
+comma_first front rest e = sym (ap token_at e)
+
+pub list_end_first : (front rest : List ℕ) → front ≡ 93 ∷ rest → (end_array, rest) ≡ token_at front
+unfolding token_at
+list_end_first front rest e = sym (ap token_at e)
+
+pub object_end_first : (front rest : List ℕ) → front ≡ 125 ∷ rest → (end_object, rest) ≡ token_at front
+unfolding token_at
+object_end_first front rest e = sym (ap token_at e)
+
 pub opening_bracket : (bs front rest : List ℕ) (x : ℕ) → front ≡ unblanked bs → front ≡ x ∷ rest → x ≡ 91 → IsFirst bs begin_array rest
 unfolding token_at
 opening_bracket bs front rest x a b e = sym (ap token_at (sym a ∙ b ∙ ap (λ y. y ∷ rest) e))
