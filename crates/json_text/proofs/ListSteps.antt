@@ -1,6 +1,5 @@
 -- One step through a list of trees, or of pairs of name and tree.
-use Rattle.std.proofs.Common.{◌≡◌, Bool, true, false, ◌==◌, ◌<◌, ◌+◌, ℕ, List, [], ◌∷◌, ◌++◌, length, drop, map, get_or, Some, option_map, refl, sym, ◌∙◌, ap, arith, slice_get, append_assoc}
-use Rattle.std.proofs.lemmas.Option.{slice_get-map, slice_get-get_or}
+use Rattle.std.proofs.Common.{◌≡◌, Bool, true, false, ◌==◌, ◌<◌, ◌+◌, ℕ, List, [], ◌∷◌, ◌++◌, length, drop, Some, refl, sym, ◌∙◌, ap, arith, slice_get, append_assoc}
 use Rattle.std.proofs.lemmas.List.{length-append}
 use Rattle.std.proofs.lemmas.Bool.{ne_eqb}
 use Rattle.json_tree.specs.Tree.{Tree, Elements, element, Members, member, elements_of, members_of}
@@ -16,11 +15,6 @@ rest_of_elements false vs = more_elements vs
 abbrev pub rest_of_members : Bool → Members → List ℕ
 rest_of_members true ms = members_text ms
 rest_of_members false ms = more_members ms
-
--- what stands at a place of a slice, as contracts see it
-pub seen_at : {X Y : Type 0} (f : X → Y) (xs : List X) (ys : List Y) (i : ℕ) (x : X) → map f xs ≡ ys → i < length xs → x ≡ get_or xs i x → Some (f x) ≡ slice_get ys i
-seen_at f xs ys i x view within is =
-    sym (ap (λ l. slice_get l i) (sym view) ∙ slice_get-map f xs i ∙ ap (option_map f) (slice_get-get_or xs i x within) ∙ ap (λ v. Some (f v)) (sym is))
 
 -- ---- the text so far, after one part more
 

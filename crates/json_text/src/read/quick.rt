@@ -4,7 +4,7 @@ ghost use Rattle.json_tree.specs.View.{tree};
 ghost use Rattle.json_text.specs.Token.{string};
 ghost use Rattle.json_text.specs.Lex.{token_at, tokens};
 ghost use Rattle.json_text.specs.Machine as machine;
-ghost use Rattle.json_text.specs.Ahead.{unblanked, IsFirst, IsScalarToken, GoesOn, IsValue, Closes, next_element_place, next_member_place};
+ghost use Rattle.json_text.specs.Ahead.{unblanked, IsFirst, IsScalarToken, GoesOn, BeginsWithValue, Closes, next_element_place, next_member_place};
 
 use crate::read::builder::{MAX_LEVELS, object_value};
 use crate::token::chars::{Front, after_blanks, front_of};
@@ -70,7 +70,7 @@ fn scalar_of(alloc: Global, text: &str) -> Option<(Value, &str)>
 #[cycle(quick)]
 #[inline(always)]
 fn value_of(alloc: Global, text: &str, levels: usize) -> Option<(Value, &str)>
-    ensures { IfSome result (λ p. IsValue levels text.now (tree p.0) p.1.now) }
+    ensures { IfSome result (λ p. BeginsWithValue levels text.now (tree p.0) p.1.now) }
 {
     let from = after_blanks(text);
     match front_of(from) {

@@ -1,8 +1,8 @@
 use Rattle.std.proofs.Common.{◌<◌, length, rules, arith, ap}
 use Rattle.json_tree.specs.Tree.{trees_size, pairs_size}
 use Rattle.json_tree.specs.View.{tree, pair_of}
-use Rattle.json_tree.specs.Sizes.{value_in_falls, pair_in_falls}
-use Rattle.json_text.proofs.ListSteps.{seen_at, elements_more, members_more}
+use Rattle.json_tree.specs.Sizes.{seen_at, value_in_falls, pair_in_falls}
+use Rattle.json_text.proofs.ListSteps.{elements_more, members_more}
 use Rattle.json_text.proofs.Kept.{extends-more, extends-on, extends-two, extends-four}
 use Rattle.json_text.proofs.print.+print.Goals as goal
 

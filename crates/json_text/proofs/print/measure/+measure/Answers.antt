@@ -1,9 +1,9 @@
 use Rattle.std.proofs.Common.{arith, ◌<◌, ◌+◌, ap, ◌∙◌, length}
 use Rattle.json_tree.specs.Tree.{trees_size, pairs_size}
 use Rattle.json_tree.specs.View.{tree, pair_of}
-use Rattle.json_tree.specs.Sizes.{value_in_falls, pair_in_falls}
+use Rattle.json_tree.specs.Sizes.{seen_at, value_in_falls, pair_in_falls}
 use Rattle.json_text.specs.Print.{capped, string_text}
-use Rattle.json_text.proofs.ListSteps.{seen_at, elements_longer, members_longer}
+use Rattle.json_text.proofs.ListSteps.{elements_longer, members_longer}
 use Rattle.json_text.proofs.print.measure.+measure.Goals as goal
 
 pub elements_len-text_len-requires : goal.elements_len-text_len-requires
