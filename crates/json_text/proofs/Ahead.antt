@@ -10,7 +10,7 @@ use Rattle.json_text.specs.Token.{Token, string, number, boolean, null, begin_ob
 use Rattle.json_text.specs.Grammar.{object_value}
 use Rattle.json_text.specs.Lex.{token_at, tokens_from, tokens}
 use Rattle.json_text.specs.Machine.{Place, Slot, whole, element_of, member_of, want, first_element, after_element, first_name, name_of, colon_of, after_member, complete, State, more, fault, step, built, run, trees, start, deliver, opened}
-use Rattle.json_text.specs.Ahead.{unblanked, scalar_value, IsFirst, IsScalar, IsScalarToken, next_element_place, next_member_place, delivered, GoesOn, IsValue, Closes}
+use Rattle.json_text.specs.Ahead.{unblanked, scalar_value, IsFirst, IsScalar, IsScalarToken, next_element_place, next_member_place, delivered, GoesOn, BeginsWithValue, Closes}
 use Rattle.json_text.specs.FaultKinds.{too_deep}
 use Rattle.json_text.proofs.Turns.{took_more, took_done}
 
@@ -116,7 +116,7 @@ first_step malformed v outer e = Prim.cc e
 first_is : (bs : List ℕ) (v : Tree) (rest : List ℕ) → IsScalar bs v rest → IsFirst bs (token_at (unblanked bs)).0 rest
 first_is bs v rest s = ap (λ r. ((token_at (unblanked bs)).0, r)) (sym s.1)
 
-pub scalar_is_value : (l : ℕ) (bs : List ℕ) (v : Tree) (rest : List ℕ) → IsScalar bs v rest → IsValue l bs v rest
+pub scalar_is_value : (l : ℕ) (bs : List ℕ) (v : Tree) (rest : List ℕ) → IsScalar bs v rest → BeginsWithValue l bs v rest
 scalar_is_value l bs v rest s =
     let t = (token_at (unblanked bs)).0 in
     let first = first_is bs v rest s in
@@ -126,12 +126,12 @@ scalar_is_value l bs v rest s =
       first = goes_one l first_element (after_element (v ∷ [])) bs rest t first (λ outer. first_step t v outer s.0 ∙ delivers v (element_of []) outer);
     }
 
-pub from_front : (l : ℕ) (bs front : List ℕ) (v : Tree) (rest : List ℕ) → front ≡ unblanked bs → IsScalarToken (token_at front) v rest → IsValue l bs v rest
+pub from_front : (l : ℕ) (bs front : List ℕ) (v : Tree) (rest : List ℕ) → front ≡ unblanked bs → IsScalarToken (token_at front) v rest → BeginsWithValue l bs v rest
 from_front l bs front v rest e s = scalar_is_value l bs v rest (subst (λ f. IsScalarToken (token_at f) v rest) e s)
 
 -- ---- elements and members
 
-pub element_more : {l : ℕ} {p : Place Tree} {v : Tree} {bs a b : List ℕ} (vs new : List Tree) → GoesOn l p bs (next_element_place vs) a → IsValue l a v b → new ≡ vs ++ v ∷ [] → GoesOn l p bs (after_element new) b
+pub element_more : {l : ℕ} {p : Place Tree} {v : Tree} {bs a b : List ℕ} (vs new : List Tree) → GoesOn l p bs (next_element_place vs) a → BeginsWithValue l a v b → new ≡ vs ++ v ∷ [] → GoesOn l p bs (after_element new) b
 element_more {l} {p} {v} {bs} {a} {b} [] new g is e = subst (λ n. GoesOn l p bs (after_element n) b) (sym e) (goes_then g is.first)
 element_more {l} {p} {v} {bs} {a} {b} (w ∷ ws) new g is e = subst (λ n. GoesOn l p bs (after_element n) b) (sym e) (goes_then g (is.goes (element_of (w ∷ ws))))
 
@@ -139,14 +139,14 @@ some_element : (vs : List Tree) (v : Tree) → want (element_of (vs ++ v ∷ [])
 some_element [] v = refl
 some_element (w ∷ ws) v = refl
 
-pub element_next : {l : ℕ} {p : Place Tree} {v : Tree} {bs a b c : List ℕ} (vs new : List Tree) → GoesOn l p bs (next_element_place vs) a → IsValue l a v b → new ≡ vs ++ v ∷ [] → IsFirst b value_separator c
+pub element_next : {l : ℕ} {p : Place Tree} {v : Tree} {bs a b c : List ℕ} (vs new : List Tree) → GoesOn l p bs (next_element_place vs) a → BeginsWithValue l a v b → new ≡ vs ++ v ∷ [] → IsFirst b value_separator c
     → GoesOn l p bs (next_element_place new) c
 element_next {l} {p} {v} {bs} {a} {b} {c} vs new g is e comma =
     let place : want (element_of new) ≡ next_element_place new = ap (λ n. want (element_of n)) e ∙ some_element vs v ∙ ap next_element_place (sym e) in
     subst (λ q. GoesOn l p bs q c) place (goes_then (element_more vs new g is e) (by_element_comma l new b c comma))
 
 pub member_is : (l : ℕ) (ms new : List (List ℕ × Tree)) (n : List ℕ) (v : Tree) (bs named wanting rest : List ℕ) → IsFirst bs (string n) named → IsFirst named name_separator wanting
-    → IsValue l wanting v rest → new ≡ put_member n v ms → GoesOn l (next_member_place ms) bs (after_member new) rest
+    → BeginsWithValue l wanting v rest → new ≡ put_member n v ms → GoesOn l (next_member_place ms) bs (after_member new) rest
 member_is l ms new n v bs named wanting rest a b is e =
     subst (λ m. GoesOn l (next_member_place ms) bs (after_member m) rest) (sym e)
     (goes_then (goes_then (by_name l ms n bs named a) (by_colon l ms n named wanting b)) (is.goes (member_of ms n)))
@@ -168,7 +168,7 @@ member_next {l} {p} {bs} {a} {b} {c} ms (m ∷ new) g h some comma = goes_then (
 
 -- the token opens a level
 pub opening : (l : ℕ) (t : Token) (inner : Place Tree) (bs a : List ℕ) (v : Tree) (rest : List ℕ) → ((slot : Slot Tree) (outer : Levels) → step trees (at_place outer (want slot)) t ≡ opened trees slot outer inner)
-    → ((outer : Levels) → step trees (at_place outer first_element) t ≡ opened trees (element_of []) outer inner) → 0 < l → IsFirst bs t a → Closes inner (l - 1) a v rest → IsValue l bs v rest
+    → ((outer : Levels) → step trees (at_place outer first_element) t ≡ opened trees (element_of []) outer inner) → 0 < l → IsFirst bs t a → Closes inner (l - 1) a v rest → BeginsWithValue l bs v rest
 opening l t inner bs a v rest wanted first some e c =
     let opens = λ (slot : Slot Tree) (outer : Levels) (room : length outer < 32). let yes : opened trees slot outer inner ≡ more (at_place (slot ∷ outer) inner) = ap (λ b. cond b (more (at_place (slot ∷ outer) inner)) (fault too_deep)) (lt-ltb (length outer) 32 room) in yes in
     let shorter : length a < length bs = (took_more trees (at_place [] (want whole)) 0 bs t a e (at_place (whole ∷ []) inner) (wanted whole [] ∙ opens whole [] (omega arith))).0 in
@@ -186,11 +186,11 @@ opening l t inner bs a v rest wanted first some e c =
       first = record { shorter = omega (arith, shorter, c.shorter); same = runs first_element (element_of []) first };
     }
 
-pub list_opens : (l : ℕ) (bs a : List ℕ) (v : Tree) (rest : List ℕ) → 0 < l → IsFirst bs begin_array a → Closes first_element (l - 1) a v rest → IsValue l bs v rest
+pub list_opens : (l : ℕ) (bs a : List ℕ) (v : Tree) (rest : List ℕ) → 0 < l → IsFirst bs begin_array a → Closes first_element (l - 1) a v rest → BeginsWithValue l bs v rest
 unfolding step
 list_opens l bs a v rest some e c = opening l begin_array first_element bs a v rest (λ slot outer. refl) (λ outer. refl) some e c
 
-pub object_opens : (l : ℕ) (bs a : List ℕ) (v : Tree) (rest : List ℕ) → 0 < l → IsFirst bs begin_object a → Closes first_name (l - 1) a v rest → IsValue l bs v rest
+pub object_opens : (l : ℕ) (bs a : List ℕ) (v : Tree) (rest : List ℕ) → 0 < l → IsFirst bs begin_object a → Closes first_name (l - 1) a v rest → BeginsWithValue l bs v rest
 unfolding step
 object_opens l bs a v rest some e c = opening l begin_object first_name bs a v rest (λ slot outer. refl) (λ outer. refl) some e c
 
@@ -224,6 +224,22 @@ pub object_empty : (l : ℕ) (v : Tree) (bs rest : List ℕ) → v ≡ object_va
 unfolding step
 object_empty l v bs rest is e = subst (λ w. Closes first_name l bs w rest) (sym is) (closing l first_name first_name end_object bs bs (object_value []) rest (λ slot outer. refl) (goes_nowhere l first_name bs) e)
 
+pub colon_first : (front rest : List ℕ) → front ≡ 58 ∷ rest → (name_separator, rest) ≡ token_at front
+unfolding token_at
+colon_first front rest e = sym (ap token_at e)
+
+pub comma_first : (front rest : List ℕ) → front ≡ 44 ∷ rest → (value_separator, rest) ≡ token_at front
+unfolding token_at
+comma_first front rest e = sym (ap token_at e)
+
+pub list_end_first : (front rest : List ℕ) → front ≡ 93 ∷ rest → (end_array, rest) ≡ token_at front
+unfolding token_at
+list_end_first front rest e = sym (ap token_at e)
+
+pub object_end_first : (front rest : List ℕ) → front ≡ 125 ∷ rest → (end_object, rest) ≡ token_at front
+unfolding token_at
+object_end_first front rest e = sym (ap token_at e)
+
 pub opening_bracket : (bs front rest : List ℕ) (x : ℕ) → front ≡ unblanked bs → front ≡ x ∷ rest → x ≡ 91 → IsFirst bs begin_array rest
 unfolding token_at
 opening_bracket bs front rest x a b e = sym (ap token_at (sym a ∙ b ∙ ap (λ y. y ∷ rest) e))
@@ -239,7 +255,7 @@ then_some None f h = tt
 
 -- ---- a whole text
 
-pub whole_value : (bs : List ℕ) (v : Tree) (rest : List ℕ) → IsValue 32 bs v rest → unblanked rest ≡ [] → run trees start (tokens bs) ≡ built v
+pub whole_value : (bs : List ℕ) (v : Tree) (rest : List ℕ) → BeginsWithValue 32 bs v rest → unblanked rest ≡ [] → run trees start (tokens bs) ≡ built v
 unfolding step token_at
 whole_value bs v rest is e =
     let ended : IsFirst rest end [] = sym (ap token_at e) in

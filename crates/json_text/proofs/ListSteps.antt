@@ -1,12 +1,11 @@
 -- One step through a list of trees, or of pairs of name and tree.
-use Rattle.std.proofs.Common.{◌≡◌, Bool, true, false, ◌==◌, ◌<◌, ◌≤◌, ◌+◌, ℕ, zero, suc, List, [], ◌∷◌, ◌++◌, length, drop, Some, None, refl, sym, ◌∙◌, ap, ap₂, arith, slice_get, add-one, append_assoc}
-use Rattle.std.proofs.Math.Seq.{drop-cons}
-use Rattle.std.proofs.lemmas.Option.{slice_get_within, get_or_from_slice_get}
+use Rattle.std.proofs.Common.{◌≡◌, Bool, true, false, ◌==◌, ◌<◌, ◌+◌, ℕ, List, [], ◌∷◌, ◌++◌, length, drop, Some, refl, sym, ◌∙◌, ap, arith, slice_get, append_assoc}
 use Rattle.std.proofs.lemmas.List.{length-append}
 use Rattle.std.proofs.lemmas.Bool.{ne_eqb}
-use Rattle.json_tree.specs.Tree.{Tree, Elements, element, Members, member, tree_size, trees_size, pairs_size, elements_of, members_of}
+use Rattle.json_tree.specs.Tree.{Tree, Elements, element, Members, member, elements_of, members_of}
 use Rattle.json_text.specs.Print.{capped, string_text, text_of, separator, elements_text, members_text, more_elements, more_members}
 use Rattle.json_tree.specs.Falls.{elements_size-elements_of, members_size-members_of}
+use Rattle.json_tree.specs.Sizes.{drop-at, at_end}
 
 -- what is left to write of a list or an object, whose next part is the first one or not
 abbrev pub rest_of_elements : Bool → Elements → List ℕ
@@ -16,32 +15,6 @@ rest_of_elements false vs = more_elements vs
 abbrev pub rest_of_members : Bool → Members → List ℕ
 rest_of_members true ms = members_text ms
 rest_of_members false ms = more_members ms
-
-pub drop-at : {X : Type 0} (xs : List X) (i : ℕ) (x : X) → slice_get xs i ≡ Some x → drop i xs ≡ x ∷ drop (i + 1) xs
-drop-at xs i x e = drop-cons xs i x (slice_get_within xs i x e) ∙ ap₂ (λ a b. a ∷ drop b xs) (get_or_from_slice_get xs i x x e) (sym (add-one i))
-
-pub at_end : {X : Type 0} (xs : List X) (i : ℕ) → slice_get xs i ≡ None → length xs ≤ i
-at_end [] i e = omega arith
-at_end (x ∷ xs) zero e = Prim.cc e
-at_end (x ∷ xs) (suc i) e = omega (arith, at_end xs i e)
-
-some_size : (ts : List Tree) → 0 < trees_size ts
-some_size [] = omega arith
-some_size (t ∷ ts) = omega (arith, some_size ts)
-
-some_pairs : (ps : List (List ℕ × Tree)) → 0 < pairs_size ps
-some_pairs [] = omega arith
-some_pairs (p ∷ ps) = omega (arith, some_pairs ps)
-
-pub tree_falls : (ts : List Tree) (i : ℕ) (t : Tree) → slice_get ts i ≡ Some t → tree_size t < trees_size ts
-tree_falls [] i t e = Prim.cc e
-tree_falls (u ∷ ts) zero t e = let q : u ≡ t = Prim.cc e in omega (arith, ap tree_size q, some_size ts)
-tree_falls (u ∷ ts) (suc i) t e = omega (arith, tree_falls ts i t e)
-
-pub pair_falls : (ps : List (List ℕ × Tree)) (i : ℕ) (p : List ℕ × Tree) → slice_get ps i ≡ Some p → tree_size p.1 < pairs_size ps
-pair_falls [] i p e = Prim.cc e
-pair_falls (q ∷ ps) zero p e = let r : q ≡ p = Prim.cc e in omega (arith, ap (λ (x : List ℕ × Tree). tree_size x.1) r, some_pairs ps)
-pair_falls (q ∷ ps) (suc i) p e = omega (arith, pair_falls ps i p e)
 
 -- ---- the text so far, after one part more
 

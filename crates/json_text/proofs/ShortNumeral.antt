@@ -11,7 +11,7 @@ use Rattle.std.specs.Char.{is_ascii_digit, digit_value}
 use Rattle.std.specs.Str.Parse.{digits_value, digits_value_after}
 use Rattle.json_tree.specs.Num.{in_range, scaled, units_of}
 use Rattle.json_text.specs.Numeral.{is_numeral_byte, is_whole, decimal_of, unsigned, numeral}
-use Rattle.json_text.specs.ShortNumeral.{IsFront, Stops, IsFraction, IsShort}
+use Rattle.json_text.specs.ShortNumeral.{BeginsWithDigits, Stops, IsShortFraction, IsShort}
 use Rattle.json_text.specs.Print.{with_point}
 use Rattle.json_tree.specs.Decimals.{in_range-small, ten_pos, ten_step, ten_split}
 use Rattle.json_text.proofs.NumeralValues.{some_parts}
@@ -19,7 +19,7 @@ use Rattle.json_tree.specs.DigitLists.{digit_is, digits_append}
 use Rattle.json_text.proofs.NumbersReadBack.{RunEnds, run_stops, run_front, run_rest, all_both, all_more, all_point, digit_in_numeral, point_stops, fraction_point, fraction_power, no_minus}
 
 -- a digit more
-pub front_more : (bs : List ℕ) (n len : ℕ) → IsFront bs n len → len < length bs → len < 18 → is_ascii_digit (get_or bs len 0) ≡ true → IsFront bs (n * 10 + (get_or bs len 0 - 48)) (len + 1)
+pub front_more : (bs : List ℕ) (n len : ℕ) → BeginsWithDigits bs n len → len < length bs → len < 18 → is_ascii_digit (get_or bs len 0) ≡ true → BeginsWithDigits bs (n * 10 + (get_or bs len 0 - 48)) (len + 1)
 front_more bs n len f h few digit =
     let x = get_or bs len 0 in
     let is = digit_is x digit in
@@ -34,12 +34,12 @@ front_more bs n len f h few digit =
     }
 
 -- what is added stays within 64 bits
-pub front_fits : (bs : List ℕ) (n len : ℕ) → IsFront bs n len → len < 18 → n * 10 + 256 < 2 ^ 64
+pub front_fits : (bs : List ℕ) (n len : ℕ) → BeginsWithDigits bs n len → len < 18 → n * 10 + 256 < 2 ^ 64
 front_fits bs n len f h = omega (arith, f.small, pow-le-pow_right {n = 10} (omega arith) {i = len} {j = 17} (omega arith))
 
 -- ---- what a fraction adds
 
-pub no_fraction : (bs : List ℕ) → Stops bs → IsFraction bs 0 0
+pub no_fraction : (bs : List ℕ) → Stops bs → IsShortFraction bs 0 0
 no_fraction bs stops = record { digits = []; rest = bs; is = refl; few = omega arith; all = refl; long = refl; value = refl; small = omega arith; stops = stops }
 
 point_long : (ds : List ℕ) → 0 < length ds → length (with_point ds) ≡ length ds + 1
@@ -61,7 +61,7 @@ fits_units n len small few =
     let power : 10 ^ len * 10 ^ (18 - len) ≡ 10 ^ 18 = sym (pow-add 10 len (18 - len)) ∙ ap (λ k. 10 ^ k) (let sum : len + (18 - len) ≡ 18 = omega arith in sum) in
     omega (arith, power, mul-lt-mul_of_pos_right {m = n} {n = 10 ^ len} {k = 10 ^ (18 - len)} small (ten_pos (18 - len)))
 
-pub some_fraction : (bs after rest : List ℕ) (n len : ℕ) → bs ≡ 46 ∷ after → IsFront after n len → 0 < len → rest ≡ drop len after → Stops rest → IsFraction bs (n * 10 ^ (18 - len)) (len + 1)
+pub some_fraction : (bs after rest : List ℕ) (n len : ℕ) → bs ≡ 46 ∷ after → BeginsWithDigits after n len → 0 < len → rest ≡ drop len after → Stops rest → IsShortFraction bs (n * 10 ^ (18 - len)) (len + 1)
 some_fraction bs after rest n len e f some r stops =
     let ds = take len after in
     let is_long : length ds ≡ len = short_take len after f.within in
@@ -116,7 +116,7 @@ some_whole : (bs : List ℕ) (len : ℕ) → is_whole (take len bs) ≡ true →
 some_whole bs zero h = absurd (cc h)
 some_whole bs (suc n) h = omega arith
 
-pub is_short : (bs ds rest : List ℕ) (n len m k : ℕ) → IsFront bs n len → ds ≡ take len bs → rest ≡ drop len bs → is_whole ds ≡ true → IsFraction rest m k → IsShort bs (n * 10 ^ 18 + m) (len + k)
+pub is_short : (bs ds rest : List ℕ) (n len m k : ℕ) → BeginsWithDigits bs n len → ds ≡ take len bs → rest ≡ drop len bs → is_whole ds ≡ true → IsShortFraction rest m k → IsShort bs (n * 10 ^ 18 + m) (len + k)
 is_short bs ds rest n len m k f d r whole fr =
     let w = take len bs in
     let t = w ++ with_point fr.digits in

@@ -52,7 +52,7 @@ pub record GoesOn (levels : ℕ) (from : Place Tree) (bytes : List ℕ) (to : Pl
       ≡ run trees (record { outer = outer; place = to }) (tokens_from 0 (at + (length bytes - length rest)) rest)
 
 -- the bytes begin with the value, of at most so many levels, and the rest follows it
-pub record IsValue (levels : ℕ) (bytes : List ℕ) (v : Tree) (rest : List ℕ) : Type 0 where
+pub record BeginsWithValue (levels : ℕ) (bytes : List ℕ) (v : Tree) (rest : List ℕ) : Type 0 where
   pub shorter : length rest < length bytes
   pub goes : (slot : Slot Tree) → GoesOn levels (want slot) bytes (delivered v slot) rest
   pub first : GoesOn levels first_element bytes (after_element (v ∷ [])) rest

@@ -7,7 +7,7 @@ use Rattle.json_text.specs.Numeral.{is_numeral_byte, numeral}
 use Rattle.json_text.specs.Print.{with_point}
 
 -- the first len bytes are digits, at most 18, that write n
-pub record IsFront (bytes : List ℕ) (n len : ℕ) : Type 0 where
+pub record BeginsWithDigits (bytes : List ℕ) (n len : ℕ) : Type 0 where
   pub within : len ≤ length bytes
   pub few : len ≤ 18
   pub digits : IsTrue (list_all is_ascii_digit (take len bytes))
@@ -20,7 +20,7 @@ Stops [] = Unit {0}
 Stops (x ∷ xs) = is_numeral_byte x ≡ false
 
 -- the bytes begin with nothing, or with a point and digits, at most 18, which add n units and are len bytes
-pub record IsFraction (bytes : List ℕ) (n len : ℕ) : Type 0 where
+pub record IsShortFraction (bytes : List ℕ) (n len : ℕ) : Type 0 where
   pub digits : List ℕ
   pub rest : List ℕ
   pub is : bytes ≡ with_point digits ++ rest

@@ -69,12 +69,10 @@ fn print_elements(elements: &Items, out: &mut Vec<u8>) -> Result<(), AllocError>
     ensures kept { OnErr result (Extends out.old.items out.new.items) }
 {
     out.push(b'[')?;
-    for i in 0..elements.len() {
-        let Some(element) = elements.get(i) else {
-            return Ok(());
-        };
+    let values = elements.as_slice();
+    for i in 0..values.len() {
         print_separator(i, out)?;
-        print_tree(element, out)?;
+        print_tree(&values[i], out)?;
     }
     out.push(b']')?;
     Ok(())
@@ -87,14 +85,13 @@ fn print_members(members: &Members, out: &mut Vec<u8>) -> Result<(), AllocError>
     ensures kept { OnErr result (Extends out.old.items out.new.items) }
 {
     out.push(b'{')?;
-    for i in 0..members.len() {
-        let Some((name, value)) = members.pair(i) else {
-            return Ok(());
-        };
+    let pairs = members.as_slice();
+    for i in 0..pairs.len() {
+        let pair = &pairs[i];
         print_separator(i, out)?;
-        print_string(name.as_str(), out)?;
+        print_string(pair.0.as_str(), out)?;
         out.push(b':')?;
-        print_tree(value, out)?;
+        print_tree(&pair.1, out)?;
     }
     out.push(b'}')?;
     Ok(())

@@ -1,7 +1,7 @@
 -- The measures of trees: a part is smaller than the list that holds it, and one step through such a list.
-use Rattle.std.proofs.Common.{◌≡◌, ◌<◌, ◌≤◌, ◌+◌, ℕ, zero, suc, List, [], ◌∷◌, length, drop, map, get_or, Some, None, sym, ◌∙◌, ap, ap₂, arith, slice_get, add-one}
+use Rattle.std.proofs.Common.{◌≡◌, ◌<◌, ◌≤◌, ◌+◌, ℕ, zero, suc, List, [], ◌∷◌, length, drop, map, get_or, Some, None, option_map, sym, ◌∙◌, ap, ap₂, arith, slice_get, add-one}
 use Rattle.std.proofs.Math.Seq.{drop-cons}
-use Rattle.std.proofs.lemmas.Option.{slice_get_within, get_or_from_slice_get}
+use Rattle.std.proofs.lemmas.Option.{slice_get_within, get_or_from_slice_get, slice_get-map, slice_get-get_or}
 use Rattle.json_tree.specs.Tree.{Tree, tree_size, trees_size, pairs_size}
 use Rattle.json_tree.specs.View.{tree, pair_of}
 use Rattle.json_tree.specs.declared.value.Value.{Value}
@@ -34,6 +34,11 @@ pair_falls (q ∷ ps) zero p e = let r : q ≡ p = Prim.cc e in omega (arith, ap
 pair_falls (q ∷ ps) (suc i) p e = omega (arith, pair_falls ps i p e)
 
 -- ---- the same of values and pairs in a slice
+
+-- what stands at a place of a slice, as contracts see it
+pub seen_at : {X Y : Type 0} (f : X → Y) (xs : List X) (ys : List Y) (i : ℕ) (x : X) → map f xs ≡ ys → i < length xs → x ≡ get_or xs i x → Some (f x) ≡ slice_get ys i
+seen_at f xs ys i x view within is =
+    sym (ap (λ l. slice_get l i) (sym view) ∙ slice_get-map f xs i ∙ ap (option_map f) (slice_get-get_or xs i x within) ∙ ap (λ v. Some (f v)) (sym is))
 
 pub value_in_falls : (xs : List Value) (i : ℕ) (x : Value) → i < length xs → x ≡ get_or xs i x → tree_size (tree x) < trees_size (map tree xs)
 value_in_falls [] i x h e = absurd (omega arith)

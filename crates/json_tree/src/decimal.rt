@@ -34,6 +34,7 @@ fn over(n: u128, power: u32) -> Option<u128>
     Some(n)
 }
 
+// The number times ten to the power, where that is whole and a magnitude that a number may have.
 pub(crate) fn scale_near(n: u128, power: i64) -> Option<u128>
     ensures value { result ≡ option_and_then in_range (scaled n power) }
     ensures range { IfSome result (λ n. n < LIMIT) }
@@ -54,15 +55,6 @@ pub(crate) fn scale_near(n: u128, power: i64) -> Option<u128>
     } else {
         None
     }
-}
-
-/// The coefficient times ten to the power, in units where the coefficient is one, if that is whole and
-/// a magnitude that a number may have.
-pub fn scale(coefficient: u128, power: i32) -> Option<u128>
-    ensures value { result ≡ option_and_then in_range (scaled coefficient power) }
-    ensures range { IfSome result (λ n. n < 10 ^ 38) }
-{
-    scale_near(coefficient, i64::from(power))
 }
 
 /// A magnitude without its trailing zeros, at most 18 of them, and how many were taken off.

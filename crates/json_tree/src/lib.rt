@@ -16,7 +16,6 @@ mod text;
 mod value;
 
 pub use builder::ObjectBuilder;
-pub use decimal::scale;
 pub use digits::digits_units;
 pub use doc::Doc;
 pub use fault::TreeFault;

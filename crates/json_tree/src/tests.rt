@@ -1,4 +1,4 @@
-use crate::{Doc, DocId, Items, Members, Num, ObjectBuilder, Text, TreeFault, Value, scale};
+use crate::{Doc, DocId, Items, Members, Num, ObjectBuilder, Text, TreeFault, Value};
 use std::alloc::Global;
 use std::cmp::Ordering;
 use std::test::Fail;
@@ -43,12 +43,6 @@ fn numbers_of_parts(rt: HostRuntime) {
             "{coefficient} {power}"
         );
     }
-}
-
-#[test]
-fn magnitudes_are_scaled(rt: HostRuntime) {
-    assert_eq!(rt; scale(12, 3), Some(12_000));
-    assert_eq!(rt; scale(12, -1), None);
 }
 
 fn wanted(parts: Option<(i128, i32)>) -> Option<i128> {

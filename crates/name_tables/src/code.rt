@@ -1,3 +1,4 @@
+//! The codes of errors: each has a text, and each text is of one code.
 ghost use Rattle.std.specs.Prelude.{◌≡◌, ◌<◌, ◌↔◌, Some, slice_get};
 
 use crate::tables::codes;

@@ -1,3 +1,4 @@
+//! A table of names: a name by its row, and a row by its name.
 ghost use Rattle.std.specs.Prelude.{◌≡◌, ◌<◌, ◌↔◌, ℕ, length, slice_get, Some, IfSome, IsTrue};
 ghost use Rattle.name_tables.specs.Names.{all_distinct};
 

@@ -1,3 +1,4 @@
+//! The four tables: commands, operators of filters, operators of updates, and texts of codes.
 ghost use Rattle.std.specs.Prelude.{◌≡◌};
 ghost use Rattle.name_tables.specs.Tables.{command_names, filter_op_names, update_op_names, code_names};
 

@@ -70,7 +70,10 @@ pub struct RealClock<R: time::Clock + Drop> {
 }
 
 impl<R: time::Clock + Drop> RealClock<R> {
-    pub fn new(clock: R) -> RealClock<R> {
+    /// A clock over the system's.
+    pub fn new(clock: R) -> RealClock<R>
+        ensures { result.clock ≡ clock }
+    {
         RealClock { clock }
     }
 }

@@ -26,7 +26,8 @@ pub struct RealSource<R: Read + Drop> {
 impl<R: Read + Drop> RealSource<R> {
     /// No fault is counted yet.
     pub fn new(reader: R) -> RealSource<R>
-        ensures { result.faults ≡ 0 }
+        ensures faults { result.faults ≡ 0 }
+        ensures reader { result.reader ≡ reader }
     {
         RealSource { reader, faults: 0 }
     }
@@ -84,6 +85,7 @@ impl<W: Write + Drop> RealSink<W> {
     pub fn new(writer: W) -> RealSink<W>
         ensures faults { result.faults ≡ 0 }
         ensures ended { result.ended ≡ 0 }
+        ensures writer { result.writer ≡ writer }
     {
         RealSink {
             writer,

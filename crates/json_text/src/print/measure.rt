@@ -96,12 +96,10 @@ fn elements_len(elements: &Items) -> u64
     ensures { result ≡ capped (length (text_of (list (elements_of elements.now)))) }
 {
     let mut len = 1;
-    for i in 0..elements.len() {
-        let Some(element) = elements.get(i) else {
-            return 0;
-        };
+    let values = elements.as_slice();
+    for i in 0..values.len() {
         len = plus(len, separator_len(i));
-        len = plus(len, text_len(element));
+        len = plus(len, text_len(&values[i]));
     }
     plus(len, 1)
 }
@@ -112,14 +110,13 @@ fn members_len(members: &Members) -> u64
     ensures { result ≡ capped (length (text_of (object (members_of members.now)))) }
 {
     let mut len = 1;
-    for i in 0..members.len() {
-        let Some((name, value)) = members.pair(i) else {
-            return 0;
-        };
+    let pairs = members.as_slice();
+    for i in 0..pairs.len() {
+        let pair = &pairs[i];
         len = plus(len, separator_len(i));
-        len = plus(len, string_len(name.as_str()));
+        len = plus(len, string_len(pair.0.as_str()));
         len = plus(len, 1);
-        len = plus(len, text_len(value));
+        len = plus(len, text_len(&pair.1));
     }
     plus(len, 1)
 }

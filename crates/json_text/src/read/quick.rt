@@ -1,10 +1,10 @@
 // A value at the front of a text, where one stands there, with no word on why none does.
-ghost use Rattle.std.specs.Prelude.{◌≡◌, ◌<◌, [], length, IfSome};
+ghost use Rattle.std.specs.Prelude.{◌≡◌, ◌<◌, [], ◌∷◌, length, IfSome};
 ghost use Rattle.json_tree.specs.View.{tree};
-ghost use Rattle.json_text.specs.Token.{string, name_separator, value_separator, end_array, end_object};
+ghost use Rattle.json_text.specs.Token.{string};
 ghost use Rattle.json_text.specs.Lex.{token_at, tokens};
 ghost use Rattle.json_text.specs.Machine as machine;
-ghost use Rattle.json_text.specs.Ahead.{IsFirst, IsScalarToken, GoesOn, IsValue, Closes, next_element_place, next_member_place};
+ghost use Rattle.json_text.specs.Ahead.{unblanked, IsFirst, IsScalarToken, GoesOn, BeginsWithValue, Closes, next_element_place, next_member_place};
 
 use crate::read::builder::{MAX_LEVELS, object_value};
 use crate::token::chars::{Front, after_blanks, front_of};
@@ -13,46 +13,13 @@ use crate::token::string::string_of;
 use json_tree::{Items, Members, ObjectBuilder, Text, Value};
 use std::alloc::Global;
 
+// What follows this byte, where it is the first one that is no blank.
 #[inline(always)]
-#[tactic(auto, unfolding(crate::specs::Lex::token_at))]
-fn after_colon(text: &str) -> Option<&str>
-    ensures { IfSome result (λ rest. IsFirst text.now name_separator rest.now) }
+fn after_byte(byte: u8, text: &str) -> Option<&str>
+    ensures { IfSome result (λ rest. unblanked text.now ≡ byte ∷ rest.now) }
 {
     match front_of(after_blanks(text)) {
-        Front::Ascii(b':', rest) => Some(rest),
-        _ => None,
-    }
-}
-
-#[inline(always)]
-#[tactic(auto, unfolding(crate::specs::Lex::token_at))]
-fn after_comma(text: &str) -> Option<&str>
-    ensures { IfSome result (λ rest. IsFirst text.now value_separator rest.now) }
-{
-    match front_of(after_blanks(text)) {
-        Front::Ascii(b',', rest) => Some(rest),
-        _ => None,
-    }
-}
-
-#[inline(always)]
-#[tactic(auto, unfolding(crate::specs::Lex::token_at))]
-fn after_elements(text: &str) -> Option<&str>
-    ensures { IfSome result (λ rest. IsFirst text.now end_array rest.now) }
-{
-    match front_of(after_blanks(text)) {
-        Front::Ascii(b']', rest) => Some(rest),
-        _ => None,
-    }
-}
-
-#[inline(always)]
-#[tactic(auto, unfolding(crate::specs::Lex::token_at))]
-fn after_members(text: &str) -> Option<&str>
-    ensures { IfSome result (λ rest. IsFirst text.now end_object rest.now) }
-{
-    match front_of(after_blanks(text)) {
-        Front::Ascii(b'}', rest) => Some(rest),
+        Front::Ascii(first, rest) if first == byte => Some(rest),
         _ => None,
     }
 }
@@ -103,7 +70,7 @@ fn scalar_of(alloc: Global, text: &str) -> Option<(Value, &str)>
 #[cycle(quick)]
 #[inline(always)]
 fn value_of(alloc: Global, text: &str, levels: usize) -> Option<(Value, &str)>
-    ensures { IfSome result (λ p. IsValue levels text.now (tree p.0) p.1.now) }
+    ensures { IfSome result (λ p. BeginsWithValue levels text.now (tree p.0) p.1.now) }
 {
     let from = after_blanks(text);
     match front_of(from) {
@@ -125,7 +92,7 @@ fn elements_of(alloc: Global, text: &str, levels: usize) -> Option<(Items, &str)
         let Ok(()) = elements.push(value) else {
             return None;
         };
-        match after_comma(after) {
+        match after_byte(b',', after) {
             Some(next) => rest = next,
             None => {
                 elements.fit();
@@ -140,11 +107,11 @@ fn elements_of(alloc: Global, text: &str, levels: usize) -> Option<(Items, &str)
 fn list_of(alloc: Global, text: &str, levels: usize) -> Option<(Value, &str)>
     ensures { IfSome result (λ p. Closes machine.first_element levels text.now (tree p.0) p.1.now) }
 {
-    if let Some(rest) = after_elements(text) {
+    if let Some(rest) = after_byte(b']', text) {
         return Some((Value::List(Items::new(alloc)), rest));
     }
     let (elements, after) = elements_of(alloc, text, levels)?;
-    let rest = after_elements(after)?;
+    let rest = after_byte(b']', after)?;
     Some((Value::List(elements), rest))
 }
 
@@ -161,7 +128,7 @@ fn take_member<'a>(
     ensures more { IfSome result (λ _. 0 < length members.new) }
 {
     let (name, named) = name_of(alloc, text)?;
-    let wanting = after_colon(named)?;
+    let wanting = after_byte(b':', named)?;
     let (value, after) = value_of(alloc, wanting, levels)?;
     let Ok(()) = members.put(name, value) else {
         return None;
@@ -178,7 +145,7 @@ fn members_of(alloc: Global, text: &str, levels: usize) -> Option<(Members, &str
     let mut rest = text;
     'members: loop {
         let after = take_member(alloc, &mut members, rest, levels)?;
-        match after_comma(after) {
+        match after_byte(b',', after) {
             Some(next) => rest = next,
             None => return Some((members.finish(), after)),
         }
@@ -190,11 +157,11 @@ fn members_of(alloc: Global, text: &str, levels: usize) -> Option<(Members, &str
 fn object_of(alloc: Global, text: &str, levels: usize) -> Option<(Value, &str)>
     ensures { IfSome result (λ p. Closes machine.first_name levels text.now (tree p.0) p.1.now) }
 {
-    if let Some(rest) = after_members(text) {
+    if let Some(rest) = after_byte(b'}', text) {
         return Some((object_value(Members::new(alloc)), rest));
     }
     let (members, after) = members_of(alloc, text, levels)?;
-    let rest = after_members(after)?;
+    let rest = after_byte(b'}', after)?;
     Some((object_value(members), rest))
 }
 

@@ -7,7 +7,7 @@ ghost use Rattle.json_text.specs.Numeral.{is_numeral_byte, digits, after_digits,
 ghost use Rattle.json_tree.specs.Num.{units_of};
 ghost use Rattle.json_tree.specs.Cut.{IsCut};
 ghost use Rattle.json_text.specs.SplitNumeral.{IsCutNumber, WholeRead, IsExponent, IsSplitNumeral};
-ghost use Rattle.json_text.specs.ShortNumeral.{IsFront, Stops, IsFraction, IsShort};
+ghost use Rattle.json_text.specs.ShortNumeral.{BeginsWithDigits, Stops, IsShortFraction, IsShort};
 
 use crate::units::UNIT;
 use json_tree::{Num, digits_units};
@@ -47,7 +47,7 @@ fn digits_len(bytes: &[u8]) -> usize
 // The number that the digits at the front write, at most 18 of them, and how many they are.
 #[inline(always)]
 fn few_digits(bytes: &[u8]) -> (u64, usize)
-    ensures { IsFront bytes.now result.0 result.1 }
+    ensures { BeginsWithDigits bytes.now result.0 result.1 }
 {
     let mut n = 0;
     let mut len = 0;
@@ -84,34 +84,14 @@ fn ten_to(power: u64) -> u64
     ensures value { result ≡ 10 ^ power }
     ensures small { result ≤ 10 ^ 18 }
 {
-    match power {
-        0 => 1,
-        1 => 10,
-        2 => 100,
-        3 => 1_000,
-        4 => 10_000,
-        5 => 100_000,
-        6 => 1_000_000,
-        7 => 10_000_000,
-        8 => 100_000_000,
-        9 => 1_000_000_000,
-        10 => 10_000_000_000,
-        11 => 100_000_000_000,
-        12 => 1_000_000_000_000,
-        13 => 10_000_000_000_000,
-        14 => 100_000_000_000_000,
-        15 => 1_000_000_000_000_000,
-        16 => 10_000_000_000_000_000,
-        17 => 100_000_000_000_000_000,
-        _ => 1_000_000_000_000_000_000,
-    }
+    10u64.pow(power as u32)
 }
 
 // What a point and the digits after it add in units, where they are at most 18, and how many bytes these are.
 #[inline(always)]
 #[tactic(auto, using(crate::proofs::ShortNumeral::no_fraction))]
 fn short_fraction(bytes: &[u8]) -> Option<(u64, usize)>
-    ensures { IfSome result (λ p. IsFraction bytes.now p.0 p.1) }
+    ensures { IfSome result (λ p. IsShortFraction bytes.now p.0 p.1) }
 {
     let Some(rest) = after_point(bytes) else {
         return if has_ended(bytes) { Some((0, 0)) } else { None };

@@ -36,27 +36,15 @@ fn short_escape(b: u8) -> Option<u8>
     }
 }
 
-fn hex_digit(b: u8) -> u32
-    ensures { result ≡ digit_value b }
-{
-    match b {
-        b'0'..=b'9' => (b - b'0') as u32,
-        b'A'..=b'Z' => (b - b'A') as u32 + 10,
-        b'a'..=b'z' => (b - b'a') as u32 + 10,
-        _ => 36,
-    }
-}
-
 fn code_unit(a: u8, b: u8, c: u8, d: u8) -> Option<u32>
     ensures value { result ≡ code_unit a b c d }
     ensures small { IfSome result (λ u. (u < 65536) × (d < 128)) }
 {
-    let (a, b, c, d) = (hex_digit(a), hex_digit(b), hex_digit(c), hex_digit(d));
-    if a < 16 && b < 16 && c < 16 && d < 16 {
-        Some(a * 4096 + b * 256 + c * 16 + d)
-    } else {
-        None
-    }
+    let first = (a as char).to_digit(16)?;
+    let second = (b as char).to_digit(16)?;
+    let third = (c as char).to_digit(16)?;
+    let fourth = (d as char).to_digit(16)?;
+    Some(first * 4096 + second * 256 + third * 16 + fourth)
 }
 
 // The code unit of four digits at the front, and what follows.

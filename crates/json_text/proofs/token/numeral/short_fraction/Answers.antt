@@ -1,5 +1,5 @@
 use Rattle.std.proofs.Common.{◌≡◌, ◌+◌, ◌*◌, ◌^◌, ◌<◌, true, sym, subst, arith, rules}
-use Rattle.json_text.specs.ShortNumeral.{IsFraction}
+use Rattle.json_text.specs.ShortNumeral.{IsShortFraction}
 use Rattle.json_text.proofs.ShortNumeral.{some_fraction, fits_units}
 use Rattle.json_text.proofs.token.numeral.short_fraction.Goals as goal
 
@@ -12,5 +12,5 @@ overflow_mul-result c =
 pub returns : goal.returns
 returns c =
     let ended : c.has_ended-2.result ≡ true = search rules in
-    subst (λ t. IsFraction c.args.bytes.now (c.few_digits-n.result.0 * t) (c.few_digits-n.result.1 + 1)) (sym c.ten_to.ensures.value)
+    subst (λ t. IsShortFraction c.args.bytes.now (c.few_digits-n.result.0 * t) (c.few_digits-n.result.1 + 1)) (sym c.ten_to.ensures.value)
     (some_fraction c.args.bytes.now c.in-Some.rest.now c.split_at.result.1.now c.few_digits-n.result.0 c.few_digits-n.result.1 c.in-Some.ensures c.few_digits-n.ensures (omega arith) c.split_at.ensures.back (c.has_ended-2.ensures ended))
