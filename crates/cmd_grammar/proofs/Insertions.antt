@@ -135,19 +135,6 @@ asks place t name wanted f u e j = asked_is place t name f u j ∙ ap (λ (n : N
 
 -- ---- its parts in the body
 
-pub has_value : (t : Tree) → IsInsertion t → None ≡ member_in (codes "insertOne") t → ⊥
-has_value t i e = let is = i.is_value in Prim.cc (e, is)
-
-null_stands : (o : Option Tree) → None ≡ o → IsStorable (unwrap_or o null) → ⊥
-null_stands None e s = s.document.id
-null_stands (Some d) e s = Prim.cc e
-
-pub has_document_in : (t command : Tree) → IsInsertion t → Some command ≡ member_in (codes "insertOne") t → None ≡ member_in (codes "document") command → ⊥
-has_document_in t command i e n =
-    let both : Some command ≡ Some i.inner = e ∙ i.is_value in
-    let same : command ≡ i.inner = Prim.cc both in
-    null_stands (member_in (codes "document") command) n (subst (λ (x : Tree). IsStorable (document_of x)) (sym same) i.storable)
-
 pub joined : (t command d x : Tree) → Some command ≡ member_in (codes "insertOne") t → Some d ≡ member_in (codes "document") command → x ≡ d → IsInsertionOf t (insert_one x)
 joined t command d x e h same = ap (option_and_then (member_in (codes "document"))) (sym e) ∙ sym h ∙ ap (λ (y : Tree). Some y) (sym same)
 

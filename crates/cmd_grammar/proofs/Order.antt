@@ -1,8 +1,7 @@
 -- Tests one behind the other.
-use Rattle.std.proofs.Common.{◌≡◌, ◌+◌, ◌<◌, ◌≤◌, ℕ, List, [], ◌∷◌, length, drop, Option, Some, None, refl, sym, ap, ap₂, ◌∙◌, slice_get, add-one, arith}
+use Rattle.std.proofs.Common.{◌≡◌, ◌+◌, ℕ, List, drop, Option, Some, None, refl, sym, ap, ◌∙◌, slice_get}
 use Rattle.std.specs.Option.{option_or}
-use Rattle.std.proofs.Math.Seq.{drop-cons}
-use Rattle.std.proofs.lemmas.Option.{slice_get_within, get_or_from_slice_get}
+use Rattle.json_tree.specs.Sizes.{drop-at}
 use Rattle.reply_env.specs.declared.reply.ErrorItem.{ErrorItem}
 use Rattle.cmd_grammar.specs.First.{first_by}
 use Rattle.cmd_grammar.specs.Answers.{Refuses}
@@ -21,9 +20,6 @@ first_fires a b x e = ap (λ o. option_or o b) e
 -- it doesn't fire
 pub goes_on : {E : Type 0} (a b : Option E) → a ≡ None → option_or a b ≡ b
 goes_on a b e = ap (λ o. option_or o b) e
-
-drop-at : {X : Type 0} (xs : List X) (i : ℕ) (x : X) → slice_get xs i ≡ Some x → drop i xs ≡ x ∷ drop (i + 1) xs
-drop-at xs i x e = drop-cons xs i x (slice_get_within xs i x e) ∙ ap₂ (λ a b. a ∷ drop b xs) (get_or_from_slice_get xs i x x e) (sym (add-one i))
 
 -- a loop over the tests: so far none has fired
 pub fires_at : {X E : Type 0} (f : X → Option E) (xs : List X) (i : ℕ) (x : X) (e : E) → Some x ≡ slice_get xs i → f x ≡ Some e → first_by f xs ≡ first_by f (drop i xs) → first_by f xs ≡ Some e

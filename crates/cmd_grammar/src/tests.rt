@@ -1,3 +1,4 @@
+// Requests and what they are read as, or refused by, worked out by hand.
 mod rows;
 
 use super::*;

@@ -10,7 +10,7 @@ use Rattle.doc_limits.specs.Values.{values_in, values_in_elements, values_in_mem
 use Rattle.doc_limits.specs.Paths.{paths_in, paths_in_elements, paths_in_members}
 use Rattle.doc_limits.specs.Limits.{greatest}
 use Rattle.doc_limits.specs.Counts.{both, joined, dotted, longer, reached, counts, place_counts, tree_counts, name_counts, list_counts, object_counts}
-use Rattle.doc_limits.proofs.Steps.{drop-at}
+use Rattle.json_tree.specs.Sizes.{drop-at}
 
 -- two counts agree where all of them do
 same_counts : (a b : Counts) → a.levels ≡ b.levels → a.empty_name ≡ b.empty_name → a.name ≡ b.name → a.path ≡ b.path → a.object ≡ b.object → a.members ≡ b.members → a.list ≡ b.list → a.text ≡ b.text → a ≡ b

@@ -1,4 +1,3 @@
-pub mod Steps
 pub mod Named
 pub mod Dollars
 pub mod Counted

@@ -6,7 +6,7 @@ use Rattle.std.proofs.lemmas.List.Folds.{find-append}
 use Rattle.std.specs.Prelude.{option_map, IfNone, IsTrue}
 use Rattle.json_tree.specs.Tree.{Tree, elements_of, members_of}
 use Rattle.doc_limits.specs.Names.{is_plain, names_in, names_in_elements, names_in_members, first_bad_name}
-use Rattle.doc_limits.proofs.Steps.{drop-at}
+use Rattle.json_tree.specs.Sizes.{drop-at}
 
 abbrev pub first_bad : List (List ℕ) → Option (List ℕ)
 first_bad names = find (λ n. not (is_plain n)) names

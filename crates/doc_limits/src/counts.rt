@@ -95,7 +95,7 @@ pub(crate) fn counts_of(value: &Value) -> Counts
 // joins the counts of a value with so many levels around it, and so many bytes in its path, which a
 // whole value doesn't have
 #[cycle(count)]
-#[tactic(auto, using(crate::proofs::Steps::sizes))]
+#[tactic(auto, using(json_tree::specs::Sizes::sizes))]
 fn count(value: &Value, above: u64, path: Option<u64>, counts: &mut Counts)
     ensures { counts.new ≡ joined counts.old (tree_counts above path (tree value.now)) }
 {
@@ -116,7 +116,7 @@ fn count_text(content: &Text, above: u64, path: Option<u64>, counts: &mut Counts
 }
 
 #[cycle(count)]
-#[tactic(auto, using(crate::proofs::Steps::sizes))]
+#[tactic(auto, using(json_tree::specs::Sizes::sizes))]
 fn count_list(elements: &Items, above: u64, path: Option<u64>, counts: &mut Counts)
     ensures { counts.new ≡ joined counts.old (tree_counts above path (list (elements_of elements.now))) }
 {
@@ -133,7 +133,7 @@ fn count_list(elements: &Items, above: u64, path: Option<u64>, counts: &mut Coun
 }
 
 #[cycle(count)]
-#[tactic(auto, using(crate::proofs::Steps::sizes))]
+#[tactic(auto, using(json_tree::specs::Sizes::sizes))]
 fn count_object(members: &Members, above: u64, path: Option<u64>, counts: &mut Counts)
     ensures { counts.new ≡ joined counts.old (tree_counts above path (object (members_of members.now))) }
 {

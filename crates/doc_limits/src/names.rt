@@ -27,7 +27,7 @@ fn is_plain(name: &str) -> bool
 
 /// The first member name, in the order of the text, with a byte outside `[A-Za-z0-9_-]`.
 #[cycle(names)]
-#[tactic(auto, using(crate::proofs::Steps::sizes))]
+#[tactic(auto, using(json_tree::specs::Sizes::sizes))]
 pub fn names_fault(value: &Value) -> Option<&Text>
     ensures first { option_map (λ n. n.now) result ≡ first_bad_name (tree value.now) }
     ensures plain { IfNone result (IsTrue (list_all is_plain (names_in (tree value.now)))) }
@@ -41,7 +41,7 @@ pub fn names_fault(value: &Value) -> Option<&Text>
 }
 
 #[cycle(names)]
-#[tactic(auto, using(crate::proofs::Steps::sizes))]
+#[tactic(auto, using(json_tree::specs::Sizes::sizes))]
 fn elements_fault(elements: &Items) -> Option<&Text>
     ensures { option_map (λ n. n.now) result ≡ first_bad_name (list (elements_of elements.now)) }
 {
@@ -57,7 +57,7 @@ fn elements_fault(elements: &Items) -> Option<&Text>
 }
 
 #[cycle(names)]
-#[tactic(auto, using(crate::proofs::Steps::sizes))]
+#[tactic(auto, using(json_tree::specs::Sizes::sizes))]
 fn members_fault(members: &Members) -> Option<&Text>
     ensures { option_map (λ n. n.now) result ≡ first_bad_name (object (members_of members.now)) }
 {

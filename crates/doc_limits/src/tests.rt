@@ -1,4 +1,5 @@
-use crate::{Broken, check, names_fault};
+// Limits and names of documents, against rows worked out by hand.
+use crate::{check, names_fault};
 use json_text::read_value;
 use std::alloc::Global;
 use std::test::Fail;
@@ -31,34 +32,19 @@ fn add_members(alloc: Global, text: &mut Vec<u8>, times: usize) -> Result<(), Fa
     Ok(())
 }
 
-// the limit, the bound and the count, or zeros where no limit is broken
-fn found(alloc: Global, text: &[u8]) -> Result<(u8, u64, u64), Fail> {
-    let value = read_value(alloc, text)?;
-    match check(&value) {
-        Ok(()) => Ok((0, 0, 0)),
-        Err(
-            Broken {
-                limit,
-                bound,
-                found,
-            },
-        ) => Ok((limit, bound, found)),
-    }
-}
-
-// what is found in a document with so many bytes more in its last text
-fn found_text(alloc: Global, len: usize) -> Result<(u8, u64, u64), Fail> {
+// a document of texts of 8,000 bytes, the last one of so many
+fn long_document(alloc: Global, len: usize) -> Result<Vec<u8>, Fail> {
     let full = around(alloc, "\"", "x", 8_000, "\",")?;
     let mut text = around(alloc, "{\"a\":[", "", 0, "")?;
     for _ in 0..124 {
         text.extend_from_slice(full.as_slice())?;
     }
     text.extend_from_slice(around(alloc, "\"", "y", len, "\"]}")?.as_slice())?;
-    found(alloc, text.as_slice())
+    Ok(text)
 }
 
-// what is found in objects one inside another: nine names of 100 bytes, one of so many, and a value
-fn found_path(alloc: Global, len: usize, value: &str) -> Result<(u8, u64, u64), Fail> {
+// objects one inside another: nine names of 100 bytes, one of so many, and a value
+fn deep_document(alloc: Global, len: usize, value: &str) -> Result<Vec<u8>, Fail> {
     let part = around(alloc, "{\"", "n", 100, "\":")?;
     let mut text = Vec::new(alloc);
     for _ in 0..9 {
@@ -67,123 +53,128 @@ fn found_path(alloc: Global, len: usize, value: &str) -> Result<(u8, u64, u64), 
     text.extend_from_slice(around(alloc, "{\"", "n", len, "\":")?.as_slice())?;
     text.extend_from_slice(value.as_bytes())?;
     text.extend_from_slice(b"}}}}}}}}}}")?;
-    found(alloc, text.as_slice())
+    Ok(text)
 }
 
-// what is found in a document of two objects with so many members each
-fn found_members(alloc: Global, first: usize, second: usize) -> Result<(u8, u64, u64), Fail> {
+// two objects with members: so many, and 1,000
+fn broad_document(alloc: Global, first: usize) -> Result<Vec<u8>, Fail> {
     let mut text = around(alloc, "{\"a\":{", "", 0, "")?;
     add_members(alloc, &mut text, first)?;
     text.extend_from_slice(b"},\"b\":{")?;
-    add_members(alloc, &mut text, second)?;
+    add_members(alloc, &mut text, 1_000)?;
     text.extend_from_slice(b"}}")?;
-    found(alloc, text.as_slice())
+    Ok(text)
 }
 
-// what is found in a document that the bytes around so many times the middle spell
-fn found_around(
-    alloc: Global,
-    before: &str,
-    middle: &str,
-    times: usize,
-    after: &str,
-) -> Result<(u8, u64, u64), Fail> {
-    found(
-        alloc,
-        around(alloc, before, middle, times, after)?.as_slice(),
-    )
+// Documents by their form, a count and what they hold, and what is broken: the limit, the bound and the count found, or
+// zeros where no limit is.
+const ROWS: [(&str, usize, &str, u8, u64, u64); 21] = [
+    ("text", 0, "{}", 0, 0, 0),
+    ("long", 7_618, "", 0, 0, 0),
+    ("long", 7_619, "", 1, 1_000_000, 1_000_001),
+    (
+        "text",
+        0,
+        r#"{"a":[[[[[[[[[[[[[[[{"$date":1}]]]]]]]]]]]]]]]}"#,
+        0,
+        0,
+        0,
+    ),
+    (
+        "text",
+        0,
+        r#"{"a":[[[[[[[[[[[[[[[{}]]]]]]]]]]]]]]]}"#,
+        2,
+        16,
+        17,
+    ),
+    (
+        "text",
+        0,
+        r#"{"a":[[[[[[[[[[[[[[[1,[]]]]]]]]]]]]]]]]}"#,
+        2,
+        16,
+        17,
+    ),
+    ("text", 0, r#"{"a":1,"b":[{"":""}]}"#, 3, 1, 0),
+    ("name", 100, "", 0, 0, 0),
+    ("name", 101, "", 4, 100, 101),
+    ("deep", 91, "1", 0, 0, 0),
+    ("deep", 92, "1", 5, 1_000, 1_001),
+    ("deep", 89, "[0,1,2,3,4,5,6,7,8,9]", 0, 0, 0),
+    ("deep", 89, "[0,1,2,3,4,5,6,7,8,9,10]", 5, 1_000, 1_001),
+    ("broad", 998, "", 0, 0, 0),
+    ("broad", 1_001, "", 6, 1_000, 1_001),
+    ("broad", 999, "", 7, 2_000, 2_001),
+    ("list", 999, "", 0, 0, 0),
+    ("list", 1_000, "", 8, 1_000, 1_001),
+    ("word", 8_000, "a", 0, 0, 0),
+    ("word", 8_001, "a", 9, 8_000, 8_001),
+    ("word", 8_001, "", 3, 1, 0),
+];
+
+fn document(alloc: Global, form: &str, count: usize, inner: &str) -> Result<Vec<u8>, Fail> {
+    match form {
+        "long" => long_document(alloc, count),
+        "name" => around(alloc, "{\"", "n", count, "\":1}"),
+        "deep" => deep_document(alloc, count, inner),
+        "broad" => broad_document(alloc, count),
+        "list" => around(alloc, "{\"a\":[0", ",0", count, "]}"),
+        "word" => {
+            let before = format!(in alloc; "{{\"{inner}\":[\"")?;
+            around(alloc, before.as_str(), "x", count, "\"]}")
+        }
+        _ => around(alloc, inner, "", 0, ""),
+    }
+}
+
+// whether just this is broken, or nothing, where the limit is 0
+fn breaks(alloc: Global, text: &[u8], limit: u8, bound: u64, found: u64) -> Result<bool, Fail> {
+    let value = read_value(alloc, text)?;
+    match check(&value) {
+        Ok(()) => Ok(limit == 0),
+        Err(broken) => Ok(broken.limit == limit && broken.bound == bound && broken.found == found),
+    }
 }
 
 #[test]
 fn meets_and_breaks_each_limit(rt: HostRuntime) -> Result<(), Fail> {
     let alloc = rt.alloc();
-    assert_eq!(rt; found(alloc, b"{}")?, (0, 0, 0));
-    assert_eq!(rt; found_text(alloc, 7_618)?, (0, 0, 0));
-    assert_eq!(rt; found_text(alloc, 7_619)?, (1, 1_000_000, 1_000_001));
-    assert_eq!(rt;
-        found(
-            alloc,
-            b"{\"a\":[[[[[[[[[[[[[[[{\"$date\":1}]]]]]]]]]]]]]]]}"
-        )?,
-        (0, 0, 0)
-    );
-    assert_eq!(rt;
-        found(alloc, b"{\"a\":[[[[[[[[[[[[[[[{}]]]]]]]]]]]]]]]}")?,
-        (2, 16, 17)
-    );
-    assert_eq!(rt;
-        found(alloc, b"{\"a\":[[[[[[[[[[[[[[[1,[]]]]]]]]]]]]]]]]}")?,
-        (2, 16, 17)
-    );
-    assert_eq!(rt; found(alloc, b"{\"a\":1,\"b\":[{\"\":\"\"}]}")?, (3, 1, 0));
-    assert_eq!(rt; found_around(alloc, "{\"", "n", 100, "\":1}")?, (0, 0, 0));
-    assert_eq!(rt;
-        found_around(alloc, "{\"", "n", 101, "\":1}")?,
-        (4, 100, 101)
-    );
-    assert_eq!(rt; found_path(alloc, 91, "1")?, (0, 0, 0));
-    assert_eq!(rt; found_path(alloc, 92, "1")?, (5, 1_000, 1_001));
-    assert_eq!(rt; found_path(alloc, 89, "[0,1,2,3,4,5,6,7,8,9]")?, (0, 0, 0));
-    assert_eq!(rt;
-        found_path(alloc, 89, "[0,1,2,3,4,5,6,7,8,9,10]")?,
-        (5, 1_000, 1_001)
-    );
-    assert_eq!(rt; found_members(alloc, 998, 1_000)?, (0, 0, 0));
-    assert_eq!(rt; found_members(alloc, 3, 1_001)?, (6, 1_000, 1_001));
-    assert_eq!(rt; found_members(alloc, 999, 1_000)?, (7, 2_000, 2_001));
-    assert_eq!(rt;
-        found_around(alloc, "{\"a\":[0", ",0", 999, "]}")?,
-        (0, 0, 0)
-    );
-    assert_eq!(rt;
-        found_around(alloc, "{\"a\":[0", ",0", 1_000, "]}")?,
-        (8, 1_000, 1_001)
-    );
-    assert_eq!(rt;
-        found_around(alloc, "{\"a\":[\"", "x", 8_000, "\"]}")?,
-        (0, 0, 0)
-    );
-    assert_eq!(rt;
-        found_around(alloc, "{\"a\":[\"", "x", 8_001, "\"]}")?,
-        (9, 8_000, 8_001)
-    );
-    assert_eq!(rt;
-        found_around(alloc, "{\"\":[\"", "x", 8_001, "\"]}")?,
-        (3, 1, 0)
-    );
+    for (form, count, inner, limit, bound, found) in ROWS.iter() {
+        let text = document(alloc, form, *count, inner)?;
+        assert!(rt;
+            breaks(alloc, text.as_slice(), *limit, *bound, *found)?,
+            "{form} {count}"
+        );
+    }
     Ok(())
 }
 
-// the first bad name, or nothing
-fn bad(alloc: Global, text: &str) -> Result<String, Fail> {
+// Values, and the first bad name in each, or `none is bad`.
+const NAMES: [(&str, &str); 7] = [
+    (r#"{"a":{"b.c":1},"d e":2}"#, "b.c"),
+    (r#"{"x y":{"b.c":1}}"#, "x y"),
+    (r#"[{"ok":1},[{"\u00e9":1}],{"$a":1}]"#, "é"),
+    (r#"{"a":{"$date":1.5}}"#, "$date"),
+    (r#"{"a":{"$date":1}}"#, "none is bad"),
+    (r#"{"":"a b","azAZ09_-":["$"]}"#, "none is bad"),
+    (r#"{"@":1}"#, "@"),
+];
+
+// whether this is the first bad name
+fn is_first(alloc: Global, text: &str, name: &str) -> Result<bool, Fail> {
     let value = read_value(alloc, text.as_bytes())?;
     match names_fault(&value) {
-        Some(name) => Ok(String::from_str(alloc, name.as_str())?),
-        None => Ok(String::from_str(alloc, "none is bad")?),
+        Some(bad) => Ok(bad.as_str() == name),
+        None => Ok(name == "none is bad"),
     }
 }
 
 #[test]
 fn finds_the_first_bad_name(rt: HostRuntime) -> Result<(), Fail> {
     let alloc = rt.alloc();
-    assert_eq!(rt;
-        bad(alloc, "{\"a\":{\"b.c\":1},\"d e\":2}")?.as_str(),
-        "b.c"
-    );
-    assert_eq!(rt; bad(alloc, "{\"x y\":{\"b.c\":1}}")?.as_str(), "x y");
-    assert_eq!(rt;
-        bad(alloc, "[{\"ok\":1},[{\"\\u00e9\":1}],{\"$a\":1}]")?.as_str(),
-        "é"
-    );
-    assert_eq!(rt; bad(alloc, "{\"a\":{\"$date\":1.5}}")?.as_str(), "$date");
-    assert_eq!(rt;
-        bad(alloc, "{\"a\":{\"$date\":1}}")?.as_str(),
-        "none is bad"
-    );
-    assert_eq!(rt;
-        bad(alloc, "{\"\":\"a b\",\"azAZ09_-\":[\"$\"]}")?.as_str(),
-        "none is bad"
-    );
-    assert_eq!(rt; bad(alloc, "{\"@\":1}")?.as_str(), "@");
+    for (text, name) in NAMES.iter() {
+        assert!(rt; is_first(alloc, text, name)?, "{text}");
+    }
     Ok(())
 }

@@ -1,3 +1,4 @@
+// The texts of replies and the messages of errors, worked out by hand.
 use super::*;
 use json_tree::{DocId, Members, Num, Text, Value};
 use name_tables::Code;

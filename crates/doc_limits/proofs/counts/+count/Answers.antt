@@ -1,5 +1,5 @@
 use Rattle.std.proofs.Common.{arith, sym, ◌∙◌}
-use Rattle.doc_limits.proofs.Steps.{tree_falls, pair_falls}
+use Rattle.json_tree.specs.Sizes.{tree_falls, pair_falls}
 use Rattle.doc_limits.proofs.Counted.{list_more, object_more, list_end, object_end}
 use Rattle.doc_limits.proofs.counts.+count.Goals as goal
 

@@ -1,7 +1,7 @@
 use Rattle.std.proofs.Common.{arith, sym, ◌∙◌, ap}
 use Rattle.json_tree.specs.View.{tree}
 use Rattle.doc_limits.specs.Names.{is_plain, names_in, first_bad_name}
-use Rattle.doc_limits.proofs.Steps.{tree_falls, pair_falls}
+use Rattle.json_tree.specs.Sizes.{tree_falls, pair_falls}
 use Rattle.doc_limits.proofs.Named.{element_found, element_passed, member_bad, member_found, member_passed, plain_where_none}
 use Rattle.doc_limits.proofs.Dollars.{no_dollar_where_none}
 use Rattle.doc_limits.proofs.names.+names.Goals as goal
