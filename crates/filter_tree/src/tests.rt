@@ -322,12 +322,16 @@ fn filter_of(alloc: Global, text: &str) -> Result<Filter, FilterFault> {
     }
 }
 
+// What a copy of the filter says of the document is as the row has it.
 fn says_row(alloc: Global, doc: &Doc, row: &str) -> bool {
     let Some((text, verdict)) = row.split_once(" => ") else {
         return false;
     };
-    match filter_of(alloc, text) {
-        Ok(filter) => verdict == if filter.test(doc) { "yes" } else { "no" },
+    let Ok(filter) = filter_of(alloc, text) else {
+        return false;
+    };
+    match filter.try_copy(alloc) {
+        Ok(copy) => verdict == if copy.test(doc) { "yes" } else { "no" },
         Err(_) => false,
     }
 }
