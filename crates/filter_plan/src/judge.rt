@@ -1,6 +1,6 @@
 // The judgement of columns.
-ghost use Rattle.std.specs.Prelude.{◌≡◌, Bool, true, List};
-ghost use Rattle.filter_plan.specs.Steps.{StepTree, is_whole, steps_of, inverse, both, either, of_probe, verdict, all_verdict, any_verdict};
+ghost use Rattle.std.specs.Prelude.{◌≡◌, true, List};
+ghost use Rattle.filter_plan.specs.Steps.{is_whole, steps_of, inverse, both, either, of_probe, verdict, all_verdict, any_verdict};
 ghost use Rattle.filter_plan.specs.View.{step_tree, kept_step, IsPlanOf};
 ghost use Rattle.filter_plan.specs.Judging.{Judged};
 ghost use Rattle.json_tree.specs.Writable.{IsWritable};
