@@ -276,6 +276,19 @@ fn first_wrong<'a>(alloc: Global, keeper: &mut MemKeeper, rows: &'a str) -> &'a 
     ""
 }
 
+// One collection of this name is listed, and this number as the last one.
+fn lists(alloc: Global, keeper: &mut MemKeeper, name: &str, last: u64) -> bool {
+    match keeper.list(alloc) {
+        Ok(listing) => match listing.names.get(0) {
+            Some(only) => {
+                only.text() == name && listing.names.len() == 1 && listing.last_tx == last
+            }
+            None => false,
+        },
+        Err(_) => false,
+    }
+}
+
 const ANSWERS: &str = r#"create c {} 2 => done 0
 create c {} 2 => there 0
 create d {} 1 => full 1
@@ -315,6 +328,7 @@ fn each_answer_comes(rt: HostRuntime) -> Result<(), Fail> {
     let alloc = rt.alloc();
     let mut keeper = MemKeeper::new(alloc, Vec::new(alloc), 0);
     assert_eq!(rt; first_wrong(alloc, &mut keeper, ANSWERS), "");
+    assert!(rt; lists(alloc, &mut keeper, "d", 5));
     assert_eq!(rt; keeper.faults(), 0);
     Ok(())
 }
