@@ -1,32 +1,25 @@
 -- What a document's columns say of a probe is what the document says of it.
-use Rattle.std.proofs.Common.{◌≡◌, ℕ, ◌^◌, ◌<◌, ℤ, Bool, true, false, ◌&&◌, ◌||◌, ◌==◌, List, [], ◌∷◌, length, get_or, Option, Some, None, refl, sym, ap, ◌∙◌, subst, arith, inl, inr}
+use Rattle.std.proofs.Common.{◌≡◌, ℕ, ◌^◌, ◌<◌, ℤ, Bool, true, false, ◌&&◌, ◌||◌, ◌==◌, List, length, Option, Some, None, refl, sym, ap, ◌∙◌, subst, arith, inl, inr}
 use Rattle.std.specs.Prelude.{nat_lt, ◌⊎◌}
 use Rattle.std.specs.List.{Contains, list_any}
 use Rattle.std.specs.Str.{bytes_eq}
 use Rattle.std.proofs.lemmas.List.Folds.{Any-from_list_any, list_any_at}
 use Rattle.std.proofs.lemmas.Slice.Eq.{bytes_eq-Decides}
+use Rattle.std.proofs.lemmas.Bool.{and_parts}
 use Rattle.std.proofs.lemmas.Bool.Decides.{nat_tests}
 use Rattle.json_tree.specs.Tree.{Tree, null, boolean, number, text, date, list, object, list_of_elements}
 use Rattle.doc_paths.specs.Text.{parts, path_fault, IsPath}
 use Rattle.doc_paths.specs.At.{at}
 use Rattle.doc_paths.specs.declared.fault.PathFault.{PathFault}
 use Rattle.shred_cols.specs.Columns.{Belongs, IsColumns}
-use Rattle.shred_cols.specs.Entry.{Says, IsSize, path_of, kept_of, key_of, elements_in}
-use Rattle.shred_cols.specs.Probe.{inside, meets, same_kept, number_within, text_within, date_within}
+use Rattle.shred_cols.specs.Entry.{Says, path_of, kept_of, key_of, elements_in}
+use Rattle.shred_cols.specs.Probe.{inside, meets, same_kept, text_within}
 use Rattle.shred_cols.specs.declared.entry.Entry.{Entry}
 use Rattle.shred_cols.specs.declared.entry.Entry.TheVariants as v
 use Rattle.shred_cols.specs.declared.forms.Kept.{Kept}
 use Rattle.shred_cols.specs.declared.probe.Probe.{Probe}
 use Rattle.shred_cols.specs.declared.probe.Probe.TheVariants as p
 use Rattle.col_keeper.specs.Asked.{value_at, passes, has_at, has_size, is_kept, is_number_within, is_text_within, is_date_within, meets_document}
-
-and_first : (a b : Bool) → (a && b) ≡ true → a ≡ true
-and_first true b e = refl
-and_first false b e = e
-
-and_second : (a b : Bool) → (a && b) ≡ true → b ≡ true
-and_second true b e = e
-and_second false b e = cc
 
 both : (a b : Bool) → a ≡ true → b ≡ true → (a && b) ≡ true
 both true b p q = q
@@ -88,8 +81,8 @@ agree path test t d es columns to from = go (list_any t es) (has_at path test d)
 
 to_size : (path : List ℕ) (n : ℕ) (x : Tree) → has_size n x ≡ true → (e : Entry) × (path_of e ≡ path) × Says e x × (inside (p.Size path n) e ≡ true)
 to_size path n (list ts) h =
-    let counted : (length (list_of_elements ts) == n) ≡ true = and_first _ _ h in
-    let within : nat_lt n (2 ^ 32) ≡ true = and_second (length (list_of_elements ts) == n) _ h in
+    let counted : (length (list_of_elements ts) == n) ≡ true = (and_parts _ _ h).0 in
+    let within : nat_lt n (2 ^ 32) ≡ true = (and_parts (length (list_of_elements ts) == n) _ h).1 in
     let count : length (list_of_elements ts) ≡ n = grind (arith, nat_tests) in
     let small : n < 2 ^ 32 = grind (arith, nat_tests) in
     (v.Size path n, refl, record { elements = ts; is = refl; count = count; small = small }, both _ _ (itself path) (grind (arith, nat_tests)))
@@ -102,14 +95,14 @@ to_size path n (object ms) h = cc
 
 from_size : (path : List ℕ) (n : ℕ) (e : Entry) (x : Tree) → Says e x → inside (p.Size path n) e ≡ true → (path_of e ≡ path) × (has_size n x ≡ true)
 from_size path n (v.Size b m) x s h =
-    let equal : (n == m) ≡ true = and_second (bytes_eq path b) _ h in
+    let equal : (n == m) ≡ true = (and_parts (bytes_eq path b) _ h).1 in
     let same : n ≡ m = grind (arith, nat_tests) in
     let count = s.count in
     let small = s.small in
     let counted : (length (list_of_elements s.elements) == n) ≡ true = grind (arith, nat_tests) in
     let within : nat_lt n (2 ^ 32) ≡ true = grind (arith, nat_tests) in
     let size : has_size n (list s.elements) ≡ true = both _ _ counted within in
-    (same_path path b (and_first _ _ h), ap (has_size n) s.is ∙ size)
+    (same_path path b (and_parts _ _ h).0, ap (has_size n) s.is ∙ size)
 from_size path n e x s h = cc
 
 from_exists : (path : List ℕ) (e : Entry) (x : Tree) → Says e x → inside (p.Exists path) e ≡ true → (path_of e ≡ path) × (true ≡ true)
@@ -136,10 +129,10 @@ to_kept path k x h =
     ] refl h
 
 from_kept : (path : List ℕ) (k : Kept) (e : Entry) (x : Tree) → Says e x → inside (p.Has path k) e ≡ true → (path_of e ≡ path) × (is_kept k x ≡ true)
-from_kept path k (v.Has b l) x s h = (same_path path b (and_first _ _ h), go s)
+from_kept path k (v.Has b l) x s h = (same_path path b (and_parts _ _ h).0, go s)
   where
     alike : same_kept k l ≡ true
-    alike = and_second (bytes_eq path b) (same_kept k l) h
+    alike = (and_parts (bytes_eq path b) (same_kept k l) h).1
 
     go : ((l ≡ kept_of x) ⊎ ((y : Tree) × Contains (elements_in x) y × (l ≡ kept_of y))) → is_kept k x ≡ true
     go (inl is) = or_left _ _ (ap (same_kept k) (sym is) ∙ alike)
@@ -151,7 +144,7 @@ to_number path low high (number n) h = (v.Num path n, refl, refl, both _ _ (itse
 to_number path low high x h = cc
 
 from_number : (path : List ℕ) (low high : Option ℤ) (e : Entry) (x : Tree) → Says e x → inside (p.NumRange path low high) e ≡ true → (path_of e ≡ path) × (is_number_within low high x ≡ true)
-from_number path low high (v.Num b n) x s h = (same_path path b (and_first _ _ h), ap (is_number_within low high) s ∙ and_second _ _ h)
+from_number path low high (v.Num b n) x s h = (same_path path b (and_parts _ _ h).0, ap (is_number_within low high) s ∙ (and_parts _ _ h).1)
 from_number path low high e x s h = cc
 
 to_text : (path : List ℕ) (low high : Option (List ℕ × Option (List ℕ))) (x : Tree) → is_text_within low high x ≡ true → (e : Entry) × (path_of e ≡ path) × Says e x × (inside (p.TextRange path low high) e ≡ true)
@@ -159,7 +152,7 @@ to_text path low high (text t) h = (v.Text path (key_of t), refl, (t, refl, refl
 to_text path low high x h = cc
 
 from_text : (path : List ℕ) (low high : Option (List ℕ × Option (List ℕ))) (e : Entry) (x : Tree) → Says e x → inside (p.TextRange path low high) e ≡ true → (path_of e ≡ path) × (is_text_within low high x ≡ true)
-from_text path low high (v.Text b k) x s h = (same_path path b (and_first _ _ h), ap (is_text_within low high) s.1 ∙ ap (text_within low high) (sym s.2) ∙ and_second _ _ h)
+from_text path low high (v.Text b k) x s h = (same_path path b (and_parts _ _ h).0, ap (is_text_within low high) s.1 ∙ ap (text_within low high) (sym s.2) ∙ (and_parts _ _ h).1)
 from_text path low high e x s h = cc
 
 to_date : (path : List ℕ) (low high : Option ℤ) (x : Tree) → is_date_within low high x ≡ true → (e : Entry) × (path_of e ≡ path) × Says e x × (inside (p.DateRange path low high) e ≡ true)
@@ -167,7 +160,7 @@ to_date path low high (date n) h = (v.Date path n, refl, refl, both _ _ (itself 
 to_date path low high x h = cc
 
 from_date : (path : List ℕ) (low high : Option ℤ) (e : Entry) (x : Tree) → Says e x → inside (p.DateRange path low high) e ≡ true → (path_of e ≡ path) × (is_date_within low high x ≡ true)
-from_date path low high (v.Date b n) x s h = (same_path path b (and_first _ _ h), ap (is_date_within low high) s ∙ and_second _ _ h)
+from_date path low high (v.Date b n) x s h = (same_path path b (and_parts _ _ h).0, ap (is_date_within low high) s ∙ (and_parts _ _ h).1)
 from_date path low high e x s h = cc
 
 pub asks_document : (d : Tree) (es : List Entry) (q : Probe) → IsColumns d es → meets q es ≡ meets_document q d

@@ -1,13 +1,13 @@
 -- The id of a document that breaks no limit is short.
-use Rattle.std.proofs.Common.{◌≡◌, ℕ, zero, suc, ◌+◌, ◌≤◌, ◌<◌, max, Bool, true, false, cond, List, [], ◌∷◌, ◌++◌, length, map, Option, Some, None, refl, sym, ap, ◌∙◌, subst, arith}
+use Rattle.std.proofs.Common.{◌≡◌, ℕ, ◌+◌, ◌≤◌, Bool, true, false, cond, List, [], ◌∷◌, ◌++◌, length, map, Option, Some, None, refl, ap, arith}
 use Rattle.std.specs.Prelude.{nat_lt, codes, MatchOption, unwrap_or}
 use Rattle.std.specs.Str.{bytes_eq}
-use Rattle.std.specs.Int.{bytes_high_first}
 use Rattle.std.proofs.lemmas.Bool.Decides.{nat_tests}
 use Rattle.json_tree.specs.Tree.{Tree, null, boolean, number, text, date, list, object, Members, no_members, member, list_of_members}
+use Rattle.json_tree.specs.Bytes.{length-bytes_high_first}
 use Rattle.json_tree.specs.Members.{member_at}
 use Rattle.json_tree.specs.Doc.{IsDocument, id_in}
-use Rattle.json_tree.specs.Id.{IsId, key_of, number_bytes, date_bytes, top_inverted}
+use Rattle.json_tree.specs.Id.{IsId, number_bytes, date_bytes, top_inverted}
 use Rattle.doc_limits.specs.Limits.{broken, greatest, first_of, at_most, at_least_one, has_empty_name, longest_path}
 use Rattle.json_text.specs.Print.{capped, text_of}
 use Rattle.doc_limits.specs.Values.{values_in, values_in_members, text_bytes, levels, members_count, elements_count}
@@ -94,17 +94,13 @@ texts_short t e =
 
 -- ---- key bytes
 
-length-bytes : (k n : ℕ) → length (bytes_high_first k n) ≡ k
-length-bytes zero n = refl
-length-bytes (suc k) n = ap suc (length-bytes k n)
-
 key_short : (i : Tree) → IsId i → text_bytes i ≤ 8000 → IsShort i
 unfolding number_bytes date_bytes
 key_short null h l = omega arith
 key_short (boolean b) h l = omega arith
-key_short (number n) h l = let e = length-bytes 16 (top_inverted 127 n) in omega arith
+key_short (number n) h l = let e = length-bytes_high_first 16 (top_inverted 127 n) in omega arith
 key_short (text t) h l = omega arith
-key_short (date d) h l = let e = length-bytes 8 (top_inverted 63 d) in omega arith
+key_short (date d) h l = let e = length-bytes_high_first 8 (top_inverted 63 d) in omega arith
 key_short (list ts) h l = omega arith
 key_short (object ms) h l = omega arith
 

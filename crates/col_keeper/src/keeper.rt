@@ -1,9 +1,9 @@
 // What a keeper promises, told or not.
-ghost use Rattle.std.specs.Prelude.{◌≡◌, ◌≢◌, ◌↔◌, ℕ, ◌+◌, ◌-◌, ◌^◌, ◌<◌, ◌≤◌, List, map, length, Option, Some, None, true, false, IsTrue, IfOk, IfErr, IfSome, Err, Result, MatchResult};
+ghost use Rattle.std.specs.Prelude.{◌≡◌, ◌≢◌, ◌↔◌, ℕ, ◌-◌, ◌^◌, ◌<◌, ◌≤◌, Option, None, IfOk, IfSome, Err, Result};
 ghost use Rattle.std.specs.Option.{option_map, ForSome, option_copied};
 ghost use Rattle.outside_io.specs.Causes.{Rose};
 ghost use Rattle.outside_io.specs.Calls.{CallsMade, FailsNext, failed_calls, one_more, after_call};
-ghost use Rattle.shred_cols.specs.Row.{Version, id_of};
+ghost use Rattle.shred_cols.specs.Row.{id_of};
 ghost use Rattle.shred_cols.specs.Rows.{with_version, without};
 ghost use Rattle.col_keeper.specs.Tables.{Tables, IsTables, IsShort, KeepsLimits, rows_in, names_of, written, created, dropped};
 ghost use Rattle.col_keeper.specs.Pages.{IsPage};

@@ -12,7 +12,7 @@ use Rattle.std.proofs.lemmas.Bool.{and_parts}
 use Rattle.std.proofs.lemmas.Bool.Decides.{Decides-eqb}
 use Rattle.std.proofs.lemmas.Option.{slice_get_within, get_or_from_slice_get, slice_get-get_or}
 use Rattle.std.proofs.lemmas.Slice.Eq.{bytes_eq-Decides}
-use Rattle.json_tree.specs.Tree.{Tree, null, boolean, number, text, date, list, object, elements_of, list_of_elements, Elements, element, no_elements}
+use Rattle.json_tree.specs.Tree.{Tree, null, boolean, number, text, date, list, object, elements_of, list_of_elements, element}
 use Rattle.doc_paths.specs.At.{at}
 use Rattle.doc_paths.specs.Text.{parts, IsPath, path_fault}
 use Rattle.filter_tree.specs.Paths.{is_path}

@@ -1,17 +1,15 @@
 -- Open conditions: what they leave open, and that there are none while nothing is digested.
-use Rattle.std.proofs.Common.{◌≡◌, inl, inr, ℕ, Bool, true, false, ◌&&◌, ◌||◌, not, List, [], ◌∷◌, Option, None, is_some, refl, sym, ◌∙◌, ap, ap₂, subst}
+use Rattle.std.proofs.Common.{◌≡◌, inl, inr, ℕ, Bool, true, false, ◌&&◌, ◌||◌, not, List, [], ◌∷◌, Option, is_some, refl, sym, ◌∙◌, ap, ap₂, subst}
 use Rattle.std.specs.List.{list_any}
 use Rattle.std.specs.Str.{bytes_eq}
 use Rattle.std.proofs.lemmas.Bool.{and_parts}
 use Rattle.json_tree.specs.Tree.{Tree, null, boolean, number, text, date, list, object}
-use Rattle.doc_paths.specs.At.{at}
-use Rattle.doc_paths.specs.Text.{parts}
 use Rattle.shred_cols.specs.Entry.{key_of}
 use Rattle.shred_cols.specs.Columns.{IsColumns, Belongs}
 use Rattle.shred_cols.specs.declared.entry.Entry.{Entry}
 use Rattle.shred_cols.specs.declared.entry.Entry.TheVariants as e
 use Rattle.filter_tree.specs.Filters.{TestTree, eq, ne, gt, gte, lt, lte, among, not_among, exists, every, size, FilterTree, all, any, negated, on, FilterTrees, no_filters, filter}
-use Rattle.filter_tree.specs.Matches.{holds, matches, all_match, any_matches}
+use Rattle.filter_tree.specs.Matches.{matches, all_match, any_matches}
 use Rattle.filter_plan.specs.Judging.{is_like, front_stands, digest_stands, is_open, has_open, have_open, CanBe, AllCanBe, AnyCanBe, Judged}
 use Rattle.filter_plan.specs.declared.step.Verdict.TheVariants.{Look}
 use Rattle.filter_plan.proofs.Found.{a_member, not_true}

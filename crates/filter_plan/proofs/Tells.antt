@@ -203,6 +203,3 @@ date_le (Some (text t)) n = refl
 date_le (Some (number m)) n = refl
 date_le (Some (list ts)) n = refl
 date_le (Some (object ms)) n = refl
-
-no_order : (v : Option Tree) (x : Tree) (q : Ordering → Bool) → ordered v x ≡ None → passes q (ordered v x) ≡ false
-no_order v x q e = ap (passes q) e

@@ -1,6 +1,6 @@
 // The judgement of columns.
-ghost use Rattle.std.specs.Prelude.{◌≡◌, Bool, true, List};
-ghost use Rattle.filter_plan.specs.Steps.{StepTree, is_whole, steps_of, inverse, both, either, of_probe, verdict, all_verdict, any_verdict};
+ghost use Rattle.std.specs.Prelude.{◌≡◌, true, List};
+ghost use Rattle.filter_plan.specs.Steps.{is_whole, steps_of, inverse, both, either, of_probe, verdict, all_verdict, any_verdict};
 ghost use Rattle.filter_plan.specs.View.{step_tree, kept_step, IsPlanOf};
 ghost use Rattle.filter_plan.specs.Judging.{Judged};
 ghost use Rattle.json_tree.specs.Writable.{IsWritable};
@@ -17,7 +17,7 @@ ghost use Rattle.json_tree.specs.Tree.{Tree};
 ghost use Rattle.shred_cols.specs.Columns.{IsColumns};
 ghost use Rattle.std.specs.Prelude.{map};
 
-use crate::step::{Plan, Step, Verdict};
+use crate::step::{Plan, Step, Verdict, is_whole};
 use doc_paths::Path;
 use json_text::texts_tell_values;
 use json_tree::same_decides;
@@ -135,15 +135,6 @@ fn shared_path(steps: &[Step]) -> Option<&Path> {
 }
 
 // ---- steps that ask for one of many values at a path
-
-fn is_whole(kept: &Kept) -> bool
-    ensures { result ≡ is_whole kept.now }
-{
-    match kept {
-        Kept::Whole(_) => true,
-        Kept::Digest(_) => false,
-    }
-}
 
 fn judge_among(path: &Path, kepts: &[Kept], columns: &Columns) -> Verdict
     ensures { result ≡ any_verdict columns.now (steps_of (map (kept_step path.now) kepts.now)) }
@@ -325,16 +316,6 @@ fn any_near(steps: &[Step], columns: &Columns, path: &str, run: &[Entry]) -> Ver
     any
 }
 
-// A filter of one condition needs no walk.
-fn judge_root(step: &Step, columns: &Columns) -> Verdict
-    ensures { result ≡ verdict columns.now (step_tree step.now) }
-{
-    match step {
-        Step::Met(probe, exact) => of_probe(columns.meets(probe), *exact),
-        _ => judge(step, columns),
-    }
-}
-
 impl Plan {
     /// The probe that each document that matches meets.
     pub fn probe(&self) -> &Probe
@@ -350,6 +331,6 @@ impl Plan {
     {
         same_decides();
         texts_tell_values();
-        judge_root(&self.root, columns)
+        judge(&self.root, columns)
     }
 }

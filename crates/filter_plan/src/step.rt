@@ -1,4 +1,7 @@
 // Plans, and what they tell.
+ghost use Rattle.std.specs.Prelude.{◌≡◌};
+ghost use Rattle.filter_plan.specs.Steps.{is_whole};
+
 use doc_paths::Path;
 use shred_cols::{Kept, Probe};
 use sqlite_items::Items;
@@ -50,4 +53,14 @@ pub(crate) enum Step {
 pub struct Plan {
     pub(crate) root: Step,
     pub(crate) probe: Probe,
+}
+
+/// Whether a value is kept as its text, and not by a digest.
+pub(crate) fn is_whole(kept: &Kept) -> bool
+    ensures { result ≡ is_whole kept.now }
+{
+    match kept {
+        Kept::Whole(_) => true,
+        Kept::Digest(_) => false,
+    }
 }

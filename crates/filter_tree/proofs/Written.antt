@@ -1,20 +1,19 @@
 -- What the members of a written filter say.
-use Rattle.std.proofs.Common.{◌≡◌, ℕ, Bool, true, false, ◌&&◌, ◌||◌, List, [], ◌∷◌, codes, not, Option, Some, None, refl, sym, ◌∙◌, ap, ap₂, if◌then◌else◌}
+use Rattle.std.proofs.Common.{◌≡◌, ℕ, Bool, true, false, ◌&&◌, ◌||◌, List, [], ◌∷◌, not, Some, None, refl, sym, ◌∙◌, ap, ap₂, if◌then◌else◌}
 use Rattle.std.specs.List.{list_all, list_any}
 use Rattle.std.specs.List.Sorted.{IsPermutation}
 use Rattle.std.specs.Str.{bytes_eq}
 use Rattle.std.proofs.lemmas.Bool.{and_parts}
 use Rattle.std.proofs.lemmas.List.Sorted.{list_any-IsPermutation}
 use Rattle.std.proofs.lemmas.Slice.Eq.{bytes_eq-Decides}
-use Rattle.json_tree.specs.Tree.{Tree, object, Members, no_members, member, members_of}
+use Rattle.json_tree.specs.Tree.{Tree, object, member, members_of}
 use Rattle.json_tree.specs.Doc.{is_dollar}
 use Rattle.filter_tree.specs.Filters.{FilterTree, FilterTrees, no_filters, filter, on, eq}
 use Rattle.filter_tree.specs.Matches.{matches, all_match}
 use Rattle.filter_tree.specs.Operators.{operators, operator_named, named_in, role, role_by}
-use Rattle.filter_tree.specs.Reads.{filter_in, condition, together, filter_by, operator_filters, operator_test}
+use Rattle.filter_tree.specs.Reads.{condition, together, filter_by, operator_filters, operator_test}
 use Rattle.filter_tree.specs.Finds.{finds, just, asks}
 use Rattle.filter_tree.specs.declared.operator.Operator.{Operator}
-use Rattle.filter_tree.specs.declared.operator.Role.{Role}
 use Rattle.filter_tree.specs.declared.operator.Role.TheVariants as r
 
 pub and_true : (b : Bool) → (b && true) ≡ b

@@ -6,6 +6,5 @@ pub mod Operators
 pub mod Faults
 pub mod Reads
 pub mod Finds
-pub mod Conjuncts
 pub mod Ready
 pub mod Rows

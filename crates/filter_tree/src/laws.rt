@@ -1,5 +1,5 @@
 // What is so of all filters, said of the values that spell them.
-ghost use Rattle.std.specs.Prelude.{◌≡◌, ◌∷◌, codes, not, Bool, true, false, List, ℕ, None};
+ghost use Rattle.std.specs.Prelude.{◌≡◌, ◌∷◌, codes, not, true, false, List, ℕ, None};
 ghost use Rattle.std.specs.List.{list_all};
 ghost use Rattle.std.specs.List.Sorted.{IsPermutation};
 ghost use Rattle.json_tree.specs.Tree.{Tree, object, no_members, members_of};

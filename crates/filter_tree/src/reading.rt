@@ -2,11 +2,11 @@
 ghost use Rattle.std.specs.List.{flat_map};
 ghost use Rattle.std.specs.Option.{option_or};
 ghost use Rattle.filter_tree.specs.Paths.{is_path};
-ghost use Rattle.std.specs.Prelude.{◌≡◌, ◌⊎◌, ◌∷◌, ◌++◌, OnOk, Bool, nat_le, is_some, unwrap_or, IsTrue, Some, None, IfOk, IfErr, List, ℕ, length, map, Option, Result, true, false, [], option_map};
+ghost use Rattle.std.specs.Prelude.{◌≡◌, ◌⊎◌, ◌∷◌, ◌++◌, OnOk, Bool, nat_le, is_some, unwrap_or, Some, None, IfOk, IfErr, List, ℕ, length, map, Option, Result, true, false, []};
 ghost use Rattle.json_tree.specs.View.{tree};
-ghost use Rattle.json_tree.specs.Tree.{Tree, number, list, object, elements_of, members_of};
+ghost use Rattle.json_tree.specs.Tree.{Tree, number, list, members_of};
 ghost use Rattle.json_tree.specs.Doc.{is_dollar};
-ghost use Rattle.filter_tree.specs.Filters.{FilterTree, filters_of, list_of_filters, all, negated, on, eq};
+ghost use Rattle.filter_tree.specs.Filters.{filters_of, list_of_filters, all, negated, on, eq};
 ghost use Rattle.filter_tree.specs.View.{filter_tree, test_tree};
 ghost use Rattle.filter_tree.specs.Matches.{elements_in};
 ghost use Rattle.filter_tree.specs.Operators.{operator_named};

@@ -1,28 +1,19 @@
--- A walk from row to row gives the rows that meet the probe, in order.
-use Rattle.std.proofs.Common.{◌≡◌, ◌↔◌, ℕ, ◌<◌, ◌≤◌, Bool, true, false, cond, ◌&&◌, List, [], ◌∷◌, ◌++◌, length, map, take, drop, min, ⊎_elim, Option, Some, None, refl, sym, ap, ◌∙◌, subst, arith, append_assoc, length-append}
+-- The rows that meet a probe: where a walk begins, and what holds of them.
+use Rattle.std.proofs.Common.{zero, suc, ◌≡◌, ◌↔◌, ℕ, ◌<◌, ◌≤◌, Bool, true, false, cond, ◌&&◌, List, [], ◌∷◌, length, map, take, min, ⊎_elim, Option, refl, sym, ap, ◌∙◌, subst, arith}
 use Rattle.std.specs.List.{AllByRecursion as Each, filter}
-use Rattle.std.specs.Option.{option_map}
-use Rattle.std.specs.Ordering.{is_lt}
-use Rattle.std.specs.Cmp.{IsTotalOrder}
-use Rattle.std.proofs.lemmas.Cmp.{tied_itself, then_total, on_total, nat_cmp_total, int_cmp_total, lists_total}
-use Rattle.std.specs.declared.cmp.Ordering.TheVariants.{Less}
 use Rattle.json_tree.specs.Tree.{Tree}
-use Rattle.json_tree.specs.Id.{id_cmp, id_tag, id_text, id_number}
+use Rattle.json_tree.specs.Id.{id_cmp}
 use Rattle.shred_cols.specs.declared.probe.Probe.{Probe}
-use Rattle.shred_cols.specs.Row.{Version, id_of}
+use Rattle.shred_cols.specs.Row.{Version}
 use Rattle.shred_cols.specs.Rows.{Rows, ascends, keyed, is_after}
 use Rattle.column_table.specs.After.{rows_after}
 use Rattle.col_keeper.specs.Asked.{meets_document}
-use Rattle.std.proofs.lemmas.List.{map-append, take-append-drop, take-append-le, take_all, append-nil, length-map, length-take}
-use Rattle.std.proofs.lemmas.Bool.{cases_lt}
+use Rattle.std.proofs.lemmas.List.{length-map, length-take}
+use Rattle.std.proofs.lemmas.Bool.{and_parts, cases_lt}
 use Rattle.std.specs.FinMap.Entries.{below_all}
 use Rattle.col_keeper.specs.Tables.{IsEntry, IsCollection, IsShort}
 use Rattle.col_keeper.specs.Pages.{IsPage, IsEnd, page_of, met_after}
-use Rattle.column_table.proofs.Order.{and_first, and_second, is_less, each_left, over_all, sorted_left, after_reversed}
 use Rattle.keeper_mem.specs.Scans.{meeting}
-
-ids_total : IsTotalOrder id_cmp
-ids_total = then_total (on_total id_tag nat_cmp_total) (then_total (on_total id_text (lists_total nat_cmp_total)) (on_total id_number int_cmp_total))
 
 -- ---- lists
 
@@ -31,7 +22,9 @@ each_filter P p [] h = tt
 each_filter P p (e ∷ rows) h = elim (p e) as (λ b. Each P (cond b (e ∷ filter p rows) (filter p rows))) [ true ↦ (h.0, each_filter P p rows h.1) | false ↦ each_filter P p rows h.1 ]
 
 each_take : (P : Tree × Version → Type 0) (n : ℕ) (rows : Rows) → Each P rows → Each P (take n rows)
-each_take P n rows h = each_left P (take n rows) (drop n rows) (subst (Each P) (sym (take-append-drop n rows)) h)
+each_take P zero rows h = tt
+each_take P (suc n) [] h = tt
+each_take P (suc n) (e ∷ rows) h = (h.0, each_take P n rows h.1)
 
 both : (a b : Bool) → a ≡ true → b ≡ true → (a && b) ≡ true
 both true b p q = q
@@ -40,19 +33,26 @@ both false b p q = p
 below_filter : (x : Tree) (p : Tree × Version → Bool) (rows : Rows) → below_all id_cmp x rows ≡ true → below_all id_cmp x (filter p rows) ≡ true
 below_filter x p [] h = refl
 below_filter x p (e ∷ rows) h =
-    let rest = below_filter x p rows (and_second _ _ h) in
-    elim (p e) as (λ b. below_all id_cmp x (cond b (e ∷ filter p rows) (filter p rows)) ≡ true) [ true ↦ both _ _ (and_first _ _ h) rest | false ↦ rest ]
+    let rest = below_filter x p rows (and_parts _ _ h).1 in
+    elim (p e) as (λ b. below_all id_cmp x (cond b (e ∷ filter p rows) (filter p rows)) ≡ true) [ true ↦ both _ _ (and_parts _ _ h).0 rest | false ↦ rest ]
 
 ascends_filter : (p : Tree × Version → Bool) (rows : Rows) → ascends rows ≡ true → ascends (filter p rows) ≡ true
 ascends_filter p [] h = refl
 ascends_filter p (e ∷ rows) h =
-    let rest = ascends_filter p rows (and_second _ _ h) in
-    elim (p e) as (λ b. ascends (cond b (e ∷ filter p rows) (filter p rows)) ≡ true) [ true ↦ both _ _ (below_filter e.0 p rows (and_first _ _ h)) rest | false ↦ rest ]
+    let rest = ascends_filter p rows (and_parts _ _ h).1 in
+    elim (p e) as (λ b. ascends (cond b (e ∷ filter p rows) (filter p rows)) ≡ true) [ true ↦ both _ _ (below_filter e.0 p rows (and_parts _ _ h).0) rest | false ↦ rest ]
+
+below_take : (x : Tree) (n : ℕ) (rows : Rows) → below_all id_cmp x rows ≡ true → below_all id_cmp x (take n rows) ≡ true
+below_take x zero rows h = refl
+below_take x (suc n) [] h = refl
+below_take x (suc n) (e ∷ rows) h = both _ _ (and_parts _ _ h).0 (below_take x n rows (and_parts _ _ h).1)
 
 ascends_take : (n : ℕ) (rows : Rows) → ascends rows ≡ true → ascends (take n rows) ≡ true
-ascends_take n rows h = sorted_left id_cmp ids_total (take n rows) (drop n rows) (ap ascends (take-append-drop n rows) ∙ h)
+ascends_take zero rows h = refl
+ascends_take (suc n) [] h = refl
+ascends_take (suc n) (e ∷ rows) h = both _ _ (below_take e.0 n rows (and_parts _ _ h).0) (ascends_take n rows (and_parts _ _ h).1)
 
--- ---- the loop
+-- ---- where the loop begins
 
 met_split : (probe : Probe) (a : Option Tree) (rows : Rows) → met_after probe a rows ≡ meeting probe (filter (λ e. is_after a e.0) rows)
 met_split probe a [] = refl
@@ -64,36 +64,6 @@ met_split probe a (e ∷ rows) =
 
 pub scan_starts : (probe : Probe) (rows next : Rows) (a : Option Tree) → next ≡ rows_after a rows → meeting probe next ≡ met_after probe a rows
 scan_starts probe rows next a e = ap (meeting probe) e ∙ sym (met_split probe a rows)
-
-module _ (probe : Probe) (all : Rows) (vs : List Version) (v : Version) (rest rest' : Rows) (is : rest ≡ keyed v ∷ rest') (h : map keyed vs ++ meeting probe rest ≡ all) where
-  at_row : (b : Bool) → meets_document probe v.doc ≡ b → map keyed vs ++ cond b (keyed v ∷ meeting probe rest') (meeting probe rest') ≡ all
-  at_row b m = ap (λ b. map keyed vs ++ cond b (keyed v ∷ meeting probe rest') (meeting probe rest')) (sym m) ∙ ap (λ l. map keyed vs ++ meeting probe l) (sym is) ∙ h
-
-  pub scan_takes : (vs' : List Version) → meets_document probe v.doc ≡ true → vs' ≡ vs ++ v ∷ [] → map keyed vs' ++ meeting probe rest' ≡ all
-  scan_takes vs' m more =
-      ap (λ (l : List Version). map keyed l ++ meeting probe rest') more
-      ∙ ap (λ (l : Rows). l ++ meeting probe rest') (map-append keyed vs (v ∷ []))
-      ∙ append_assoc (map keyed vs) (keyed v ∷ []) (meeting probe rest')
-      ∙ at_row true m
-
-  pub scan_passes : meets_document probe v.doc ≡ false → map keyed vs ++ meeting probe rest' ≡ all
-  scan_passes m = at_row false m
-
-  -- there is one more than were asked for
-  pub scan_full : (n : ℕ) → meets_document probe v.doc ≡ true → length vs ≡ n → (map keyed vs ≡ take n all) × ((false ≡ true) ↔ (length all ≤ n))
-  scan_full n m l =
-      let k : length (map keyed vs) ≡ n = length-map vs keyed ∙ l in
-      let whole = at_row true m in
-      let part : take n all ≡ map keyed vs = ap (take n) (sym whole) ∙ take-append-le n (map keyed vs) (keyed v ∷ meeting probe rest') (omega arith) ∙ take_all n (map keyed vs) (omega arith) in
-      let len = ap length (sym whole) ∙ length-append (map keyed vs) (keyed v ∷ meeting probe rest') in
-      (sym part, (λ e. cc, λ le. absurd (omega arith)))
-
--- all that are left were found
-pub scan_done : (probe : Probe) (all : Rows) (vs : List Version) (rest : Rows) (n : ℕ) → rest ≡ [] → length vs ≤ n → map keyed vs ++ meeting probe rest ≡ all → (map keyed vs ≡ take n all) × ((true ≡ true) ↔ (length all ≤ n))
-scan_done probe all vs rest n none l h =
-    let is : map keyed vs ≡ all = sym (append-nil (map keyed vs)) ∙ ap (λ l. map keyed vs ++ meeting probe l) (sym none) ∙ h in
-    let len : length all ≡ length vs = ap length (sym is) ∙ length-map vs keyed in
-    (is ∙ sym (take_all n all (omega arith)), (λ _. omega arith, λ _. refl))
 
 -- ---- the rows of a walk, whatever the keeper tells
 

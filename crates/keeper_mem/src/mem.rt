@@ -1,6 +1,5 @@
 // The keeper itself: each call is counted, and then looks into the collections.
 ghost use Rattle.std.specs.Prelude.{◌≡◌, ◌≤◌, ◌<◌, ◌-◌, ◌^◌, [], Some, true, IsTrue, ◌↔◌};
-ghost use Rattle.json_tree.specs.Id.{IsId, id_cmp};
 ghost use Rattle.outside_io.specs.Calls.{failed_calls, one_more, after_call, FailsNext};
 ghost use Rattle.outside_io.specs.Causes.{Rose};
 ghost use Rattle.col_keeper.specs.declared.answer.Kept2.{Kept2};

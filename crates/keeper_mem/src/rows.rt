@@ -1,8 +1,8 @@
 // Writes of rows on a condition, on one table.
-ghost use Rattle.std.specs.Prelude.{◌≡◌, ◌≢◌, ◌<◌, Option, Some, None, IfOk, IfSome, Result, Ok, Err};
-ghost use Rattle.std.specs.Option.{option_map, option_copied};
-ghost use Rattle.shred_cols.specs.Row.{Version, id_of};
-ghost use Rattle.shred_cols.specs.Rows.{Rows, version_of, with_version, without};
+ghost use Rattle.std.specs.Prelude.{◌≡◌, ◌≢◌, ◌<◌, Option, Some, None, Result, Ok, Err};
+ghost use Rattle.std.specs.Option.{option_map};
+ghost use Rattle.shred_cols.specs.Row.{id_of};
+ghost use Rattle.shred_cols.specs.Rows.{version_of, with_version, without};
 ghost use Rattle.col_keeper.specs.Answers.{InsertAnswers, ChangeAnswers, GetAnswers, IsInsertAnswer, IsChangeAnswer};
 ghost use Rattle.col_keeper.specs.declared.answer.Kept2.{Kept2};
 ghost use Rattle.col_keeper.specs.declared.answer.KeepFault.{KeepFault};

@@ -1,11 +1,9 @@
 // Rows of a table in the order of ids.
-ghost use Rattle.std.specs.Prelude.{◌≡◌, ◌≢◌, Err, ◌≤◌, Option, Some, IfOk, IfSome, false, length};
-ghost use Rattle.std.specs.Option.{option_map, option_copied};
+ghost use Rattle.std.specs.Prelude.{◌≡◌, ◌≢◌, Err, ◌≤◌, Option, Some, false};
+ghost use Rattle.std.specs.Option.{option_copied};
 ghost use Rattle.shred_cols.specs.Rows.{Rows};
-ghost use Rattle.col_keeper.specs.Tables.{IsCollection};
 ghost use Rattle.col_keeper.specs.Asked.{meets_document};
-ghost use Rattle.col_keeper.specs.Pages.{IsPage};
-ghost use Rattle.col_keeper.specs.Answers.{WalkAnswers, StoredAnswers, IsAbove};
+ghost use Rattle.col_keeper.specs.Answers.{WalkAnswers, StoredAnswers};
 ghost use Rattle.col_keeper.specs.declared.answer.KeepFault.{KeepFault};
 
 use col_keeper::{KeepFault, Stored, Walked, probes_ask_documents};

@@ -1,4 +1,4 @@
-use Rattle.std.proofs.Common.{◌≡◌, ◌∙◌, sym, rules}
+use Rattle.std.proofs.Common.{◌≡◌, ◌∙◌, rules}
 use Rattle.filter_plan.proofs.Near.{met_near}
 use Rattle.filter_plan.proofs.judge.meets.Goals as goal
 

@@ -1,4 +1,4 @@
-use Rattle.std.proofs.Common.{codes, not, true, sym, ◌∙◌, ap, ◌&&◌}
+use Rattle.std.proofs.Common.{codes, not, sym, ◌∙◌, ap}
 use Rattle.filter_tree.specs.Matches.{matches}
 use Rattle.filter_tree.specs.Reads.{filter_in}
 use Rattle.filter_tree.specs.Finds.{just}
