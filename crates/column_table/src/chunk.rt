@@ -10,7 +10,7 @@ ghost use Rattle.column_table.specs.Spot.{IsSpot};
 
 use crate::fault::TableFault;
 use json_tree::{DocId, ids_are_ordered};
-use shred_cols::{Row, Steps, beginning, beginnings_tell_order};
+use shred_cols::{Row, Steps, beginnings_tell_order};
 use std::alloc::Global;
 use std::cmp::Ordering;
 use std::marker::Model;
@@ -68,17 +68,17 @@ pub(crate) fn compare<L: Ledger>(
 }
 
 /// Searches by halves.
-fn seek<L: Ledger>(rows: &[Row], id: &DocId, steps: &mut Steps<L>) -> Spot
+fn seek<L: Ledger>(rows: &[Row], id: &DocId, begins: &[u8], steps: &mut Steps<L>) -> Spot
+    requires begins { begins.now ≡ beginning id.now }
     requires rise { ascends (map keyed rows.now) ≡ true }
     ensures spot { IsSpot id.now (map keyed rows.now) result }
     ensures cost { steps.new ≤ steps.old + length rows.now }
 {
-    let begins = beginning(id);
     let mut low = 0;
     let mut high = rows.len();
     'halves: while low < high {
         let middle = low + (high - low) / 2;
-        match compare(id, &begins, &rows[middle], steps) {
+        match compare(id, begins, &rows[middle], steps) {
             Ordering::Less => high = middle,
             Ordering::Equal => return Spot::Here(middle),
             Ordering::Greater => low = middle + 1,
@@ -133,12 +133,18 @@ impl Chunk {
     }
 
     /// The row of an id.
-    pub(crate) fn row<L: Ledger>(&self, id: &DocId, steps: &mut Steps<L>) -> Option<&Row>
+    pub(crate) fn row<L: Ledger>(
+        &self,
+        id: &DocId,
+        begins: &[u8],
+        steps: &mut Steps<L>,
+    ) -> Option<&Row>
+        requires begins { begins.now ≡ beginning id.now }
         requires rise { ascends self.now ≡ true }
         ensures row { option_copied result ≡ version_of id.now self.now }
         ensures cost { steps.new ≤ steps.old + length self.now }
     {
-        match seek(&self.rows, id, steps) {
+        match seek(&self.rows, id, begins, steps) {
             Spot::Here(place) => row_at(&self.rows, place),
             Spot::Before(_) => None,
         }
@@ -151,7 +157,7 @@ impl Chunk {
         requires free { version_of (id_of row.doc) self.old ≡ None }
         ensures rows { self.new ≡ with_version (id_of row.doc) row self.old }
     {
-        match seek(&self.rows, row.id(), steps) {
+        match seek(&self.rows, row.id(), row.begins(), steps) {
             Spot::Here(_) => unreachable!(),
             Spot::Before(place) => match self.rows.insert(place, row) {
                 Ok(()) => {}
@@ -166,7 +172,7 @@ impl Chunk {
         requires there { version_of (id_of row.doc) self.old ≢ None }
         ensures rows { self.new ≡ with_version (id_of row.doc) row self.old }
     {
-        match seek(&self.rows, row.id(), steps) {
+        match seek(&self.rows, row.id(), row.begins(), steps) {
             Spot::Here(place) => {
                 let _id = row.id();
                 let old = swap_in(&mut self.rows, place, row);
@@ -179,23 +185,30 @@ impl Chunk {
     }
 
     /// Takes the row of an id out.
-    pub(crate) fn remove<L: Ledger>(&mut self, id: &DocId, steps: &mut Steps<L>) -> Option<Row>
+    pub(crate) fn remove<L: Ledger>(
+        &mut self,
+        id: &DocId,
+        begins: &[u8],
+        steps: &mut Steps<L>,
+    ) -> Option<Row>
+        requires begins { begins.now ≡ beginning id.now }
         requires rise { ascends self.old ≡ true }
         ensures row { result ≡ version_of id.now self.old }
         ensures rows { self.new ≡ without id.now self.old }
     {
-        match seek(&self.rows, id, steps) {
+        match seek(&self.rows, id, begins, steps) {
             Spot::Here(place) => Some(self.rows.remove(place)),
             Spot::Before(_) => None,
         }
     }
 
     /// The rows after an id.
-    pub(crate) fn after<L: Ledger>(&self, id: &DocId, steps: &mut Steps<L>) -> &[Row]
+    pub(crate) fn after<L: Ledger>(&self, id: &DocId, begins: &[u8], steps: &mut Steps<L>) -> &[Row]
+        requires begins { begins.now ≡ beginning id.now }
         requires rise { ascends self.now ≡ true }
         ensures { map keyed result.now ≡ rows_after (Some id.now) self.now }
     {
-        match seek(&self.rows, id, steps) {
+        match seek(&self.rows, id, begins, steps) {
             Spot::Here(place) => rows_from(&self.rows, place + 1),
             Spot::Before(place) => rows_from(&self.rows, place),
         }

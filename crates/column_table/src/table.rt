@@ -4,6 +4,7 @@ ghost use Rattle.std.specs.List.{AllByRecursion as Each};
 ghost use Rattle.std.specs.Option.{option_map, option_copied};
 ghost use Rattle.json_tree.specs.Id.{id_cmp, IsId};
 ghost use Rattle.shred_cols.specs.Row.{Version, id_of};
+ghost use Rattle.shred_cols.specs.Beginning.{beginning};
 ghost use Rattle.shred_cols.specs.Rows.{Rows, keyed, ascends, version_of, with_version, without, first, next_of};
 ghost use Rattle.column_table.specs.Spot.{joined, IsChunkOf, Below, Above};
 ghost use Rattle.column_table.specs.Seen.{IsChunked};
@@ -44,19 +45,19 @@ impl Model for Table {
 }
 
 /// The chunk in which an id stands, or would stand.
-fn chunk_of<L: Ledger>(chunks: &[Chunk], id: &DocId, steps: &mut Steps<L>) -> usize
+fn chunk_of<L: Ledger>(chunks: &[Chunk], id: &DocId, begins: &[u8], steps: &mut Steps<L>) -> usize
+    requires begins { begins.now ≡ beginning id.now }
     requires some { 1 ≤ length chunks.now }
     requires rise { ascends (joined chunks.now) ≡ true }
     requires filled { Each (λ c. 1 ≤ length c) chunks.now }
     ensures chunk { IsChunkOf id.now chunks.now result }
     ensures cost { steps.new + 1 ≤ steps.old + length chunks.now }
 {
-    let begins = beginning(id);
     let mut low = 1;
     let mut high = chunks.len();
     'halves: while low < high {
         let middle = low + (high - low) / 2;
-        match compare(id, &begins, chunks[middle].first(), steps) {
+        match compare(id, begins, chunks[middle].first(), steps) {
             Ordering::Less => high = middle,
             _ => low = middle + 1,
         }
@@ -70,8 +71,10 @@ fn split<L: Ledger>(
     upper: Chunk,
     at: usize,
     id: &DocId,
+    begins: &[u8],
     steps: &mut Steps<L>,
 ) -> usize
+    requires begins { begins.now ≡ beginning id.now }
     requires of { IsChunkOf id.now chunks.old.items at }
     requires full { length (slice_index_or chunks.old.items at []) ≡ 64 }
     requires rise { ascends (joined chunks.old.items) ≡ true }
@@ -86,7 +89,7 @@ fn split<L: Ledger>(
     let mut upper = upper;
     let lower = &mut chunks[at];
     lower.split(&mut upper);
-    let order = compare(id, &beginning(id), upper.first(), steps);
+    let order = compare(id, begins, upper.first(), steps);
     match chunks.insert(at + 1, upper) {
         Ok(()) => {}
         Err(_) => unreachable!(),
@@ -98,7 +101,14 @@ fn split<L: Ledger>(
 }
 
 /// Whether the id comes after all rows, of which the chunk at a place has the nearest.
-fn is_past<L: Ledger>(chunks: &[Chunk], at: usize, id: &DocId, steps: &mut Steps<L>) -> bool
+fn is_past<L: Ledger>(
+    chunks: &[Chunk],
+    at: usize,
+    id: &DocId,
+    begins: &[u8],
+    steps: &mut Steps<L>,
+) -> bool
+    requires begins { begins.now ≡ beginning id.now }
     requires of { IsChunkOf id.now chunks.now at }
     requires rise { ascends (joined chunks.now) ≡ true }
     requires filled { Each (λ c. 1 ≤ length c) chunks.now }
@@ -107,7 +117,7 @@ fn is_past<L: Ledger>(chunks: &[Chunk], at: usize, id: &DocId, steps: &mut Steps
     if at + 1 < chunks.len() {
         return false;
     }
-    match compare(id, &beginning(id), chunks[at].last(), steps) {
+    match compare(id, begins, chunks[at].last(), steps) {
         Ordering::Greater => true,
         _ => false,
     }
@@ -173,7 +183,7 @@ fn put_in_half<L: Ledger>(
 {
     match spare.take() {
         Some(upper) => {
-            let half = split(chunks, upper, at, row.id(), steps);
+            let half = split(chunks, upper, at, row.id(), row.begins(), steps);
             put_in(chunks, half, row, steps);
         }
         None => unreachable!(),
@@ -205,12 +215,12 @@ fn insert_from<L: Ledger>(
         put_behind(chunks, spare, row, &mut steps);
         return;
     }
-    let at = chunk_of(chunks.as_slice(), row.id(), &mut steps);
+    let at = chunk_of(chunks.as_slice(), row.id(), row.begins(), &mut steps);
     if chunks[at].len() < WIDTH {
         put_in(chunks, at, row, &mut steps);
         return;
     }
-    if is_past(chunks.as_slice(), at, row.id(), &mut steps) {
+    if is_past(chunks.as_slice(), at, row.id(), row.begins(), &mut steps) {
         put_behind(chunks, spare, row, &mut steps);
         return;
     }
@@ -234,7 +244,7 @@ fn replace_from<L: Ledger>(chunks: &mut Vec<Chunk>, row: Row, blank: Blank)
         unreachable!()
     }
     let mut steps = Steps::<L>::from_blank(blank);
-    let at = chunk_of(chunks.as_slice(), row.id(), &mut steps);
+    let at = chunk_of(chunks.as_slice(), row.id(), row.begins(), &mut steps);
     let chunk = &mut chunks[at];
     let _old = chunk.replace(row, &mut steps);
 }
@@ -271,9 +281,10 @@ fn remove_from<L: Ledger>(chunks: &mut Vec<Chunk>, id: &DocId, blank: Blank) -> 
         return None;
     }
     let mut steps = Steps::<L>::from_blank(blank);
-    let at = chunk_of(chunks.as_slice(), id, &mut steps);
+    let begins = beginning(id);
+    let at = chunk_of(chunks.as_slice(), id, &begins, &mut steps);
     let chunk = &mut chunks[at];
-    let row = chunk.remove(id, &mut steps);
+    let row = chunk.remove(id, &begins, &mut steps);
     tidy(chunks, at);
     row
 }
@@ -299,8 +310,9 @@ fn after_from<'a, L: Ledger>(chunks: &'a [Chunk], id: &DocId, blank: Blank) -> R
         return RowsAfter::new(&[], chunks);
     }
     let mut steps = Steps::<L>::from_blank(blank);
-    let at = chunk_of(chunks, id, &mut steps);
-    let here = chunks[at].after(id, &mut steps);
+    let begins = beginning(id);
+    let at = chunk_of(chunks, id, &begins, &mut steps);
+    let here = chunks[at].after(id, &begins, &mut steps);
     RowsAfter::new(here, chunks_from(chunks, at + 1))
 }
 
@@ -325,8 +337,9 @@ impl Table {
         if self.chunks.is_empty() {
             return None;
         }
-        let at = chunk_of(&self.chunks, id, steps);
-        self.chunks[at].row(id, steps)
+        let begins = beginning(id);
+        let at = chunk_of(&self.chunks, id, &begins, steps);
+        self.chunks[at].row(id, &begins, steps)
     }
 
     /// Makes room for one insertion.

@@ -7,7 +7,7 @@ use Rattle.column_table.proofs.Nexts.{rest_after, filled_from}
 use Rattle.column_table.proofs.table.after_from.Goals as goal
 
 pub after-here-requires : goal.after-here-requires
-after-here-requires g c = record { rise = sorted_chunk c.args.chunks.now c.chunk_of-at.result c.index-chunks-at.result c.chunk_of-at.ensures.chunk.within c.index-chunks-at.is c.requires.rise }
+after-here-requires g c = record { begins = c.beginning-begins.ensures; rise = sorted_chunk c.args.chunks.now c.chunk_of-at.result c.index-chunks-at.result c.chunk_of-at.ensures.chunk.within c.index-chunks-at.is c.requires.rise }
 
 pub returns : goal.returns
 returns g c =
