@@ -1,22 +1,29 @@
 //! Updates of documents: what an update says, its first fault, and what it makes of a document.
 #![tactic(auto)]
 
-mod applying;
-mod by_parts;
-mod compare;
+// what an update is
 mod copies;
-mod draft;
 mod fault;
-mod fresh;
-mod laws;
-mod lists;
-mod making;
-mod operand;
 mod operator;
+mod update;
+
+// reading: operands, paths that overlap
+mod by_parts;
+mod operand;
 mod overlaps;
 mod reading;
+
+// applying: what each operator makes, whole documents
+mod applying;
+mod compare;
+mod draft;
+mod fresh;
+mod lists;
+mod making;
+
+// laws and worked rows
+mod laws;
 mod rows;
-mod update;
 
 pub use fault::UpdateFault;
 pub use laws::{

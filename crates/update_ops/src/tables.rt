@@ -1,16 +1,23 @@
-// Updates, each with what it makes of a document: the new one, or `same`. Refused ones, with the fault.
-pub(crate) const ORDER: &str =
-    r#"{"_id":"o","customer":{"name":"Ada","city":"London"},"items":[{"sku":"A-1","qty":2,"price":19.99},{"sku":"B-7","qty":1,"price":5}],"placed":{"$date":1700000000000},"paid":false,"note":null,"tags":[],"n":-1.5}"#;
+// Updates, each with what it makes of the document in the table's first line: the new one, or `same`; or
+// its fault. `~FROM TO PATTERN~` stands for the pattern with each number from FROM up to below TO in the
+// place of `#`, between commas.
+pub(crate) const TABLES: [&str; 10] = [
+    OF_ORDER,
+    MORE_OF_ORDER,
+    OF_LISTS,
+    OF_LONGER,
+    OF_KINDS,
+    UNREADABLE,
+    OF_MANY,
+    OF_WIDE,
+    OF_LONG,
+    OF_HALF,
+];
 
-pub(crate) const LISTS: &str = r#"{"_id":"l","v":[1,2,3],"e":[],"m":10000000000000000000}"#;
-
-pub(crate) const KINDS: &str =
-    r#"{"_id":1,"z":null,"b":true,"f":false,"n":5,"t":"m","d":{"$date":0},"l":[1,"a",{"x":1},[2],null],"o":{"x":1,"y":{"z":2}}}"#;
-
-pub(crate) const SMALL: &str = r#"{"_id":"s","a":1}"#;
-
-// Of the order.
-pub(crate) const OF_ORDER: &str = r#"{} => same
+// Of an order.
+const OF_ORDER: &str =
+    r#"{"_id":"o","customer":{"name":"Ada","city":"London"},"items":[{"sku":"A-1","qty":2,"price":19.99},{"sku":"B-7","qty":1,"price":5}],"placed":{"$date":1700000000000},"paid":false,"note":null,"tags":[],"n":-1.5}
+{} => same
 {"$set":{}} => same
 {"$set":{"paid":true}} => {"_id":"o","customer":{"name":"Ada","city":"London"},"items":[{"sku":"A-1","qty":2,"price":19.99},{"sku":"B-7","qty":1,"price":5}],"placed":{"$date":1700000000000},"paid":true,"note":null,"tags":[],"n":-1.5}
 {"$set":{"paid":false}} => same
@@ -51,8 +58,10 @@ pub(crate) const OF_ORDER: &str = r#"{} => same
 {"$mul":{"visits":7}} => {"_id":"o","customer":{"name":"Ada","city":"London"},"items":[{"sku":"A-1","qty":2,"price":19.99},{"sku":"B-7","qty":1,"price":5}],"placed":{"$date":1700000000000},"paid":false,"note":null,"tags":[],"n":-1.5,"visits":0}
 {"$mul":{"items.1.price":0.1,"items.0.qty":-3}} => {"_id":"o","customer":{"name":"Ada","city":"London"},"items":[{"sku":"A-1","qty":-6,"price":19.99},{"sku":"B-7","qty":1,"price":0.5}],"placed":{"$date":1700000000000},"paid":false,"note":null,"tags":[],"n":-1.5}"#;
 
-pub(crate) const MORE_OF_ORDER: &str =
-    r#"{"$min":{"n":-2}} => {"_id":"o","customer":{"name":"Ada","city":"London"},"items":[{"sku":"A-1","qty":2,"price":19.99},{"sku":"B-7","qty":1,"price":5}],"placed":{"$date":1700000000000},"paid":false,"note":null,"tags":[],"n":-2}
+// Of the order, with the other operators.
+const MORE_OF_ORDER: &str =
+    r#"{"_id":"o","customer":{"name":"Ada","city":"London"},"items":[{"sku":"A-1","qty":2,"price":19.99},{"sku":"B-7","qty":1,"price":5}],"placed":{"$date":1700000000000},"paid":false,"note":null,"tags":[],"n":-1.5}
+{"$min":{"n":-2}} => {"_id":"o","customer":{"name":"Ada","city":"London"},"items":[{"sku":"A-1","qty":2,"price":19.99},{"sku":"B-7","qty":1,"price":5}],"placed":{"$date":1700000000000},"paid":false,"note":null,"tags":[],"n":-2}
 {"$min":{"n":-1.5}} => same
 {"$min":{"n":-1}} => same
 {"$max":{"n":-1}} => {"_id":"o","customer":{"name":"Ada","city":"London"},"items":[{"sku":"A-1","qty":2,"price":19.99},{"sku":"B-7","qty":1,"price":5}],"placed":{"$date":1700000000000},"paid":false,"note":null,"tags":[],"n":-1}
@@ -101,11 +110,18 @@ pub(crate) const MORE_OF_ORDER: &str =
 {"$set":{"a":1},"$unset":{"b":1},"$inc":{"c":1},"$mul":{"d":1},"$min":{"e":1},"$max":{"f":1},"$rename":{"note":"g"},"$push":{"h":1},"$pop":{"tags":1},"$addToSet":{"i":1},"$setOnInsert":{"j":1},"$currentDate":{"k":true}} => {"_id":"o","customer":{"name":"Ada","city":"London"},"items":[{"sku":"A-1","qty":2,"price":19.99},{"sku":"B-7","qty":1,"price":5}],"placed":{"$date":1700000000000},"paid":false,"tags":[],"n":-1.5,"a":1,"c":1,"d":0,"e":1,"f":1,"g":null,"h":[1],"i":[1],"k":{"$date":1700000000001}}
 {"$currentDate":{"k":true},"$addToSet":{"i":1},"$push":{"h":1},"$max":{"f":1},"$inc":{"c":1},"$set":{"a":1}} => {"_id":"o","customer":{"name":"Ada","city":"London"},"items":[{"sku":"A-1","qty":2,"price":19.99},{"sku":"B-7","qty":1,"price":5}],"placed":{"$date":1700000000000},"paid":false,"note":null,"tags":[],"n":-1.5,"a":1,"c":1,"f":1,"h":[1],"i":[1],"k":{"$date":1700000000001}}
 {"$rename":{"paid":"open"},"$set":{"customer.paid":true}} => {"_id":"o","customer":{"name":"Ada","city":"London","paid":true},"items":[{"sku":"A-1","qty":2,"price":19.99},{"sku":"B-7","qty":1,"price":5}],"placed":{"$date":1700000000000},"note":null,"tags":[],"n":-1.5,"open":false}
-{"$set":{"items.1.qty":1,"paid":false,"tags":[]},"$inc":{"n":0},"$addToSet":{"lot":{"sku":"A-1","qty":2,"price":19.99}}} => {"_id":"o","customer":{"name":"Ada","city":"London"},"items":[{"sku":"A-1","qty":2,"price":19.99},{"sku":"B-7","qty":1,"price":5}],"placed":{"$date":1700000000000},"paid":false,"note":null,"tags":[],"n":-1.5,"lot":[{"sku":"A-1","qty":2,"price":19.99}]}"#;
+{"$set":{"items.1.qty":1,"paid":false,"tags":[]},"$inc":{"n":0},"$addToSet":{"lot":{"sku":"A-1","qty":2,"price":19.99}}} => {"_id":"o","customer":{"name":"Ada","city":"London"},"items":[{"sku":"A-1","qty":2,"price":19.99},{"sku":"B-7","qty":1,"price":5}],"placed":{"$date":1700000000000},"paid":false,"note":null,"tags":[],"n":-1.5,"lot":[{"sku":"A-1","qty":2,"price":19.99}]}
+{"$mul":{"n":0.000000000000000001}} => range n
+{"$mul":{"items.0.price":0.0000000000000001}} => {"_id":"o","customer":{"name":"Ada","city":"London"},"items":[{"sku":"A-1","qty":2,"price":0.000000000000001999},{"sku":"B-7","qty":1,"price":5}],"placed":{"$date":1700000000000},"paid":false,"note":null,"tags":[],"n":-1.5}
+{"$inc":{"items.0.sku":1}} => target items.0.sku
+{"$inc":{"items.sku":1}} => target items.sku
+{"$push":{"customer":1}} => target customer
+{"$set":{"paid.x":1}} => target paid.x
+{"$rename":{"customer.name":"tags.x"}} => target tags.x"#;
 
-// Of the lists.
-pub(crate) const OF_LISTS: &str =
-    r#"{"$push":{"v":{"$each":[8,9],"$position":-1}}} => {"_id":"l","v":[1,2,8,9,3],"e":[],"m":10000000000000000000}
+// Of lists and a large number.
+const OF_LISTS: &str = r#"{"_id":"l","v":[1,2,3],"e":[],"m":10000000000000000000}
+{"$push":{"v":{"$each":[8,9],"$position":-1}}} => {"_id":"l","v":[1,2,8,9,3],"e":[],"m":10000000000000000000}
 {"$push":{"v":{"$position":-1,"$each":[8,9]}}} => {"_id":"l","v":[1,2,8,9,3],"e":[],"m":10000000000000000000}
 {"$push":{"v":{"$each":[8,9],"$position":0}}} => {"_id":"l","v":[8,9,1,2,3],"e":[],"m":10000000000000000000}
 {"$push":{"v":{"$each":[8,9],"$position":1}}} => {"_id":"l","v":[1,8,9,2,3],"e":[],"m":10000000000000000000}
@@ -152,11 +168,47 @@ pub(crate) const OF_LISTS: &str =
 {"$mul":{"m":-1}} => {"_id":"l","v":[1,2,3],"e":[],"m":-10000000000000000000}
 {"$mul":{"m":0.000000000000000001}} => {"_id":"l","v":[1,2,3],"e":[],"m":10}
 {"$mul":{"v.2":0.333333333333333333}} => {"_id":"l","v":[1,2,0.999999999999999999],"e":[],"m":10000000000000000000}
-{"$set":{"v":[]},"$push":{"e":{"$each":[1,2,3]}}} => {"_id":"l","v":[],"e":[1,2,3],"m":10000000000000000000}"#;
+{"$set":{"v":[]},"$push":{"e":{"$each":[1,2,3]}}} => {"_id":"l","v":[],"e":[1,2,3],"m":10000000000000000000}
+{"$mul":{"m":10000000000000000000}} => range m
+{"$mul":{"m":10}} => range m
+{"$mul":{"v.2":99999999999999999999.999999999999999999}} => range v.2
+{"$inc":{"m":90000000000000000000}} => range m
+{"$inc":{"m":89999999999999999999.999999999999999999,"v.0":1},"$push":{"m":1}} => overlap m m
+{"$set":{"m.x":1}} => target m.x
+{"$set":{"v.x":1}} => target v.x
+{"$set":{"v.00":1}} => target v.00
+{"$set":{"v.1000":1}} => target v.1000
+{"$set":{"v.1.x":1}} => target v.1.x
+{"$inc":{"v":1}} => target v
+{"$mul":{"e":1}} => target e
+{"$min":{"v":1}} => target v
+{"$max":{"e":"z"}} => target e
+{"$push":{"m":1}} => target m
+{"$push":{"v.0":1}} => target v.0
+{"$push":{"v.x":1}} => target v.x
+{"$pop":{"m":1}} => target m
+{"$pop":{"v.0":-1}} => target v.0
+{"$addToSet":{"m":1}} => target m
+{"$addToSet":{"v.1":{"$each":[]}}} => target v.1
+{"$rename":{"m":"v.x"}} => target v.x
+{"$rename":{"v.0":"m.n"}} => target m.n
+{"$rename":{"e":"v.5000"}} => target v.5000
+{"$currentDate":{"m.at":true}} => target m.at
+{"$set":{"a":1},"$inc":{"e":1,"m":90000000000000000000}} => target e
+{"$mul":{"m":10},"$inc":{"v":1}} => target v
+{"$push":{"v":1},"$pop":{"m":1},"$min":{"e":0}} => target e"#;
 
-// Of a document with values of each kind.
-pub(crate) const OF_KINDS: &str =
-    r#"{"$min":{"n":null}} => {"_id":1,"z":null,"b":true,"f":false,"n":null,"t":"m","d":{"$date":0},"l":[1,"a",{"x":1},[2],null],"o":{"x":1,"y":{"z":2}}}
+// Of the list with two more elements.
+const OF_LONGER: &str = r#"{"_id":"l","v":[1,2,8,9,3],"e":[],"m":10000000000000000000}
+{"$addToSet":{"v":2}} => same
+{"$pop":{"e":1}} => same
+{"$mul":{"m":10000000000000000000}} => range m
+{"$unset":{"m":1},"$rename":{"e":"k.n"}} => {"_id":"l","v":[1,2,8,9,3],"k":{"n":[]}}"#;
+
+// Of values of each kind.
+const OF_KINDS: &str =
+    r#"{"_id":1,"z":null,"b":true,"f":false,"n":5,"t":"m","d":{"$date":0},"l":[1,"a",{"x":1},[2],null],"o":{"x":1,"y":{"z":2}}}
+{"$min":{"n":null}} => {"_id":1,"z":null,"b":true,"f":false,"n":null,"t":"m","d":{"$date":0},"l":[1,"a",{"x":1},[2],null],"o":{"x":1,"y":{"z":2}}}
 {"$max":{"n":null}} => same
 {"$min":{"n":"a"}} => same
 {"$max":{"n":"a"}} => {"_id":1,"z":null,"b":true,"f":false,"n":"a","t":"m","d":{"$date":0},"l":[1,"a",{"x":1},[2],null],"o":{"x":1,"y":{"z":2}}}
@@ -198,18 +250,27 @@ pub(crate) const OF_KINDS: &str =
 {"$pop":{"l":-1}} => {"_id":1,"z":null,"b":true,"f":false,"n":5,"t":"m","d":{"$date":0},"l":["a",{"x":1},[2],null],"o":{"x":1,"y":{"z":2}}}
 {"$pop":{"l.3":1}} => {"_id":1,"z":null,"b":true,"f":false,"n":5,"t":"m","d":{"$date":0},"l":[1,"a",{"x":1},[],null],"o":{"x":1,"y":{"z":2}}}
 {"$currentDate":{"d":true}} => {"_id":1,"z":null,"b":true,"f":false,"n":5,"t":"m","d":{"$date":1700000000001},"l":[1,"a",{"x":1},[2],null],"o":{"x":1,"y":{"z":2}}}
-{"$currentDate":{"o":true}} => {"_id":1,"z":null,"b":true,"f":false,"n":5,"t":"m","d":{"$date":0},"l":[1,"a",{"x":1},[2],null],"o":{"$date":1700000000001}}"#;
-
-// On a new document.
-pub(crate) const OF_NEW: &str =
-    r#"{"$setOnInsert":{"w":2},"$set":{"v":1}} => {"_id":"s","a":1,"v":1,"w":2}
-{"$setOnInsert":{"a":1}} => same
-{"$setOnInsert":{"a":2,"b.c":[1]}} => {"_id":"s","a":2,"b":{"c":[1]}}
-{"$setOnInsert":{"w":2},"$min":{"m":7},"$currentDate":{"v":true}} => {"_id":"s","a":1,"m":7,"w":2,"v":{"$date":1700000000001}}
-{"$setOnInsert":{}} => same"#;
+{"$currentDate":{"o":true}} => {"_id":1,"z":null,"b":true,"f":false,"n":5,"t":"m","d":{"$date":0},"l":[1,"a",{"x":1},[2],null],"o":{"$date":1700000000001}}
+{"$inc":{"t":1}} => target t
+{"$inc":{"z":1}} => target z
+{"$inc":{"b":1}} => target b
+{"$inc":{"d":1}} => target d
+{"$inc":{"o":1}} => target o
+{"$mul":{"t":0}} => target t
+{"$min":{"o":null}} => target o
+{"$max":{"l":null}} => target l
+{"$push":{"t":"x"}} => target t
+{"$push":{"z":"x"}} => target z
+{"$pop":{"o":1}} => target o
+{"$addToSet":{"n":5}} => target n
+{"$set":{"n.x":1}} => target n.x
+{"$set":{"t.0":1}} => target t.0
+{"$set":{"z.x":1}} => target z.x
+{"$set":{"d.x":1}} => target d.x"#;
 
 // Refused before any document is looked at.
-pub(crate) const UNREADABLE: &str = r#"[] => unknown 
+const UNREADABLE: &str = r#"{"_id":"s","a":1}
+[] => unknown 
 null => unknown 
 "$set" => unknown 
 7 => unknown 
@@ -293,57 +354,41 @@ null => unknown
 {"$set":{"_id":1,"b":1},"$inc":{"b":1}} => overlap b b
 {"$inc":{"_id":"x"},"$set":{"b":1,"b.c":1}} => bad $inc _id"#;
 
-// Refused on the lists, and on values of each kind.
-pub(crate) const REFUSED_BY_LISTS: &str = r#"{"$mul":{"m":10000000000000000000}} => range m
-{"$mul":{"m":10}} => range m
-{"$mul":{"v.2":99999999999999999999.999999999999999999}} => range v.2
-{"$inc":{"m":90000000000000000000}} => range m
-{"$inc":{"m":89999999999999999999.999999999999999999,"v.0":1},"$push":{"m":1}} => overlap m m
-{"$set":{"m.x":1}} => target m.x
-{"$set":{"v.x":1}} => target v.x
-{"$set":{"v.00":1}} => target v.00
-{"$set":{"v.1000":1}} => target v.1000
-{"$set":{"v.1.x":1}} => target v.1.x
-{"$inc":{"v":1}} => target v
-{"$mul":{"e":1}} => target e
-{"$min":{"v":1}} => target v
-{"$max":{"e":"z"}} => target e
-{"$push":{"m":1}} => target m
-{"$push":{"v.0":1}} => target v.0
-{"$push":{"v.x":1}} => target v.x
-{"$pop":{"m":1}} => target m
-{"$pop":{"v.0":-1}} => target v.0
-{"$addToSet":{"m":1}} => target m
-{"$addToSet":{"v.1":{"$each":[]}}} => target v.1
-{"$rename":{"m":"v.x"}} => target v.x
-{"$rename":{"v.0":"m.n"}} => target m.n
-{"$rename":{"e":"v.5000"}} => target v.5000
-{"$currentDate":{"m.at":true}} => target m.at
-{"$set":{"a":1},"$inc":{"e":1,"m":90000000000000000000}} => target e
-{"$mul":{"m":10},"$inc":{"v":1}} => target v
-{"$push":{"v":1},"$pop":{"m":1},"$min":{"e":0}} => target e"#;
+// With many paths, with long texts and deep paths.
+const OF_MANY: &str = r#"{"_id":"s","a":1}
+{"$set":{~0 2000 "m#.x":0~,"m7.y":0,"m7":0,"m8":0}} => overlap m7.x m7
+{"$set":{~0 2000 "m#.x":0~,"m7-1":0,"m7.x.y.z":0,"m8.x.y":0}} => overlap m7.x m7.x.y.z
+{"$set":{~0 2000 "m#.x":0~,"z.a":0,"z":0,"m1":0}} => overlap z.a z
+{"$set":{~0 2000 "m#.x":0~,"z-a":0,"z":0,"z.a":0}} => overlap z z.a
+{"$set":{~0 2000 "m#.x":0~,"m1999":0,"m0":0}} => overlap m1999.x m1999
+{"$set":{~0 2000 "m#.x":0~,"_id":0}} => id
+{"$set":{~0 2000 "m#.x":0~,"m1-x":0,"m1_x":0,"m":0,"x":0}} => broken 6 1000 2006
+{"$set":{"t":"~1000 2000 abc#~xx"}} => broken 9 8000 8001
+{"$set":{"b.c.d.e.f.g.h.i.j.k.l.m.n.o.p":{}}} => {"_id":"s","a":1,"b":{"c":{"d":{"e":{"f":{"g":{"h":{"i":{"j":{"k":{"l":{"m":{"n":{"o":{"p":{}}}}}}}}}}}}}}}}
+{"$set":{"b.c.d.e.f.g.h.i.j.k.l.m.n.o.p.q":{}}} => broken 2 16 17"#;
 
-pub(crate) const REFUSED_BY_KINDS: &str = r#"{"$inc":{"t":1}} => target t
-{"$inc":{"z":1}} => target z
-{"$inc":{"b":1}} => target b
-{"$inc":{"d":1}} => target d
-{"$inc":{"o":1}} => target o
-{"$mul":{"t":0}} => target t
-{"$min":{"o":null}} => target o
-{"$max":{"l":null}} => target l
-{"$push":{"t":"x"}} => target t
-{"$push":{"z":"x"}} => target z
-{"$pop":{"o":1}} => target o
-{"$addToSet":{"n":5}} => target n
-{"$set":{"n.x":1}} => target n.x
-{"$set":{"t.0":1}} => target t.0
-{"$set":{"z.x":1}} => target z.x
-{"$set":{"d.x":1}} => target d.x"#;
+// Of as many members as a document may have.
+const OF_WIDE: &str = r#"{"_id":1,~0 999 "m#":0~}
+{"$set":{"x":1}} => broken 6 1000 1001
+{"$inc":{"m0":0}} => same
+{"$set":{"x":1},"$unset":{"m0":1}} => {"_id":1,~1 999 "m#":0~,"x":1}"#;
 
-pub(crate) const REFUSED_BY_ORDER: &str = r#"{"$mul":{"n":0.000000000000000001}} => range n
-{"$mul":{"items.0.price":0.0000000000000001}} => {"_id":"o","customer":{"name":"Ada","city":"London"},"items":[{"sku":"A-1","qty":2,"price":0.000000000000001999},{"sku":"B-7","qty":1,"price":5}],"placed":{"$date":1700000000000},"paid":false,"note":null,"tags":[],"n":-1.5}
-{"$inc":{"items.0.sku":1}} => target items.0.sku
-{"$inc":{"items.sku":1}} => target items.sku
-{"$push":{"customer":1}} => target customer
-{"$set":{"paid.x":1}} => target paid.x
-{"$rename":{"customer.name":"tags.x"}} => target tags.x"#;
+// Of as many elements as a list may have.
+const OF_LONG: &str = r#"{"_id":1,"v":[~0 1000 #~]}
+{"$push":{"v":0}} => broken 8 1000 1001
+{"$addToSet":{"v":999}} => same
+{"$set":{"v.1000":0}} => target v.1000
+{"$addToSet":{"v":{"$each":[~0 1000 #~,~0 1000 #~]}}} => same"#;
+
+// Of half as many.
+const OF_HALF: &str = r#"{"_id":1,"v":[~0 500 #~]}
+{"$addToSet":{"v":{"$each":[~0 1000 #~,~0 1000 #~]}}} => {"_id":1,"v":[~0 1000 #~]}
+{"$addToSet":{"v":{"$each":[~500 3000 #~]}}} => broken 8 1000 3000"#;
+
+// On a new document.
+pub(crate) const NEW: &str = r#"{"_id":"s","a":1}
+{"$setOnInsert":{"w":2},"$set":{"v":1}} => {"_id":"s","a":1,"v":1,"w":2}
+{"$setOnInsert":{"a":1}} => same
+{"$setOnInsert":{"a":2,"b.c":[1]}} => {"_id":"s","a":2,"b":{"c":[1]}}
+{"$setOnInsert":{"w":2},"$min":{"m":7},"$currentDate":{"v":true}} => {"_id":"s","a":1,"m":7,"w":2,"v":{"$date":1700000000001}}
+{"$setOnInsert":{}} => same"#;

@@ -1,3 +1,4 @@
+// Updates: clauses, each a path and what is done there; copies of them.
 ghost use Rattle.std.specs.Prelude.{◌≡◌, ◌∷◌, [], ◌++◌, IfOk, IfErr, OnOk, map};
 ghost use Rattle.json_tree.specs.View.{tree};
 ghost use Rattle.update_ops.specs.View.{clause_of, done_by};
