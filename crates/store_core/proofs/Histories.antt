@@ -9,15 +9,15 @@ use Rattle.json_tree.specs.Tree.{Tree}
 use Rattle.json_text.specs.Print.{capped}
 use Rattle.shred_cols.specs.Row.{Version}
 use Rattle.shred_cols.specs.Rows.{Rows, version_of}
-use Rattle.col_keeper.specs.Tables.{Name, Collections, Tables, rows_in, with_rows, version_at, written, created, dropped}
+use Rattle.col_keeper.specs.Tables.{Name, Collections, Tables, AreApart, rows_in, with_rows, version_at, written, created, dropped}
 use Rattle.store_core.specs.State.{State, Lives, IsGone, IsOld, version, number_at, start_of, tables_of}
-use Rattle.store_core.specs.Journal.{after, put, new_doc, FitsId, FitsVersion, Raised, Legal, LegalChange, replay, IsJournal}
+use Rattle.store_core.specs.Journal.{after, put, new_doc, FitsId, FitsVersion, IsMade, IsMadeOfRead, Raised, Legal, LegalChange, replay, IsJournal}
 use Rattle.store_core.specs.Counts.{by_of, faults_after, opened_in, writes_in, size_of, size_in, text_size, AllBelow, AreCounted}
 use Rattle.store_core.specs.Store.{Begins, IsHistory}
 use Rattle.store_core.specs.Tries.{number_in, IsRead}
 use Rattle.store_core.specs.Outcomes.{fault_of}
 use Rattle.store_core.specs.declared.entry.Change.{Change}
-use Rattle.store_core.specs.declared.entry.Change.TheVariants.{Insert, Replace, Delete}
+use Rattle.store_core.specs.declared.entry.Change.TheVariants.{Insert, Replace, Update, Delete}
 use Rattle.store_core.specs.declared.entry.Entry.{Entry}
 use Rattle.store_core.specs.declared.entry.Entry.TheVariants.{Opened, Created, Dropped, Changed, Failed}
 
@@ -163,8 +163,18 @@ fits (Insert doc) id rows None found f n r = (f ∙ no_number (version_of id row
 fits (Insert doc) id rows (Some tx) found f n r = absurd r
 fits (Replace doc) id rows None found f n r = absurd r
 fits (Replace doc) id rows (Some tx) found f n r = let v = some_number (version_of id rows) tx n in (v.0, f ∙ v.1, v.2)
+fits (Update updates moment doc) id rows None found f n r = absurd r
+fits (Update updates moment doc) id rows (Some tx) found f n r = let v = some_number (version_of id rows) tx n in (v.0, f ∙ v.1, v.2)
 fits Delete id rows None found f n r = absurd r
 fits Delete id rows (Some tx) found f n r = let v = some_number (version_of id rows) tx n in (v.0, f ∙ v.1, v.2)
+
+-- the version that stands there has the number that was read
+made_so : (change : Change) (found : Option Version) (read : Option ℕ) → FitsVersion change found read → IsMadeOfRead change read found → IsMade change found
+made_so (Insert doc) found read f r = tt
+made_so (Replace doc) found read f r = tt
+made_so (Update updates moment doc) None read f r = tt
+made_so (Update updates moment doc) (Some v) read f r = r (f.2 ∙ ap (option_map (λ (w : Version). w.tx)) (sym f.1))
+made_so Delete found read f r = tt
 
 module _ (start : Option State) (first count : ℕ) (j : List Entry) (told : Option Tables) (n : ℕ) (h : IsHistory start first count j told n) where
   pub told_at : (b : State) → start ≡ Some b → told ≡ Some (tables_of (replay b j))
@@ -172,6 +182,9 @@ module _ (start : Option State) (first count : ℕ) (j : List Entry) (told : Opt
 
   pub next_is : (b : State) → start ≡ Some b → (replay b j).next ≡ first + writes_in j
   next_is b e = let a = next_are b j in let begun = h.begins b e in let c = begun.next in omega arith
+
+  pub names_apart : (b : State) → start ≡ Some b → AreApart b.collections
+  names_apart b e = let begun = h.begins b e in begun.apart
 
   pub sessions_now : (b : State) → start ≡ Some b → (replay b j).sessions ≡ opened_in j
   sessions_now b e = let a = sessions_are b j in let begun = h.begins b e in let c = begun.none_open in omega arith
@@ -268,11 +281,11 @@ module _ (start : Option State) (first count : ℕ) (j : List Entry) (told : Opt
 
     -- a change was made
     pub wrote_so : (by : ℕ) (coll : Name) (id : Tree) (change : Change) (read : Option ℕ) (tx w' z' text : ℕ) → by < opened_in j → tx ≡ first + writes_in j → tx < 2 ^ 63 - 1
-        → FitsId id (new_doc change) → IsRead change read → told' ≡ option_map (written coll (put id tx (new_doc change)) tx) told
+        → FitsId id (new_doc change) → IsRead change read → ((b : State) → start ≡ Some b → IsMadeOfRead change read (version (replay b j) coll id)) → told' ≡ option_map (written coll (put id tx (new_doc change)) tx) told
         → ((t : Tables) → told ≡ Some t → (r : Rows) × (rows_in coll t.collections ≡ Some r) × (number_in id r ≡ read)) → n ≤ n'
         → j' ≡ j ++ Changed by coll id change read tx ∷ [] → w' ≡ w + 1 → text ≡ capped (text_size (new_doc change)) → z' ≡ capped (z + 64 + text)
         → Kept start first count j' told' n' a w' z'
-    wrote_so by coll id change read tx w' z' text known number left new reads changed stood grows is one t_is size =
+    wrote_so by coll id change read tx w' z' text known number left new reads made changed stood grows is one t_is size =
         let e : Entry = Changed by coll id change read tx in (
           subst (λ (x : List Entry). IsHistory start first count x told' n') (sym is)
               (goes_on e told' n'
@@ -286,6 +299,7 @@ module _ (start : Option State) (first count : ℕ) (j : List Entry) (told : Opt
                   left = left;
                   new = new;
                   found = fits change id r.0 read (version_at coll id (replay b j).collections) (version_found coll id (replay b j).collections r.0 r.1) r.2 reads;
+                  made = made_so change (version (replay b j) coll id) read (fits change id r.0 read (version_at coll id (replay b j).collections) (version_found coll id (replay b j).collections r.0 r.1) r.2 reads) (made b q);
                 },
               ))
               (let x = opened-append j (Changed by coll id change read tx) in omega arith)
@@ -325,14 +339,14 @@ module _ (start : Option State) (first count : ℕ) (j : List Entry) (told : Opt
         )
 
 -- a journal that begins
-pub begins_so : (first count : ℕ) (told : Option Tables) (journal : List Entry) → ((t : Tables) → told ≡ Some t → (first ≡ t.last + 1) × IsOld (start_of count t)) → 1 ≤ first → first < 2 ^ 63 → journal ≡ []
+pub begins_so : (first count : ℕ) (told : Option Tables) (journal : List Entry) → ((t : Tables) → told ≡ Some t → (first ≡ t.last + 1) × IsOld (start_of count t) × AreApart t.collections) → 1 ≤ first → first < 2 ^ 63 → journal ≡ []
     → Kept (option_map (start_of count) told) first count journal told count 0 0 0
 begins_so first count told journal begun from_one low none =
     subst (λ (x : List Entry). Kept (option_map (start_of count) told) first count x told count 0 0 0) (sym none) (
       record {
         tables_are = sym (map_map told (start_of count) tables_of ∙ map_told told (λ t. tables_of (start_of count t)) (λ t. t) (λ t q. ap (λ (l : ℕ). record { collections = t.collections; last = l }) (omega arith)) ∙ map_same told);
         begins = λ b q. let t = told_back told (start_of count) b q in let u = begun t.0 t.1 in
-            subst (Begins first count) t.2 (record { next = sym u.0; none_open = refl; count_is = refl; old = u.1 });
+            subst (Begins first count) t.2 (record { next = sym u.0; none_open = refl; count_is = refl; old = u.1; apart = u.2 });
         legal = λ b q. tt;
         known = tt;
         counted = omega arith;

@@ -5,3 +5,4 @@ pub mod Looking
 pub mod Openings
 pub mod Extension
 pub mod Sessions
+pub mod Numbers

@@ -1,19 +1,21 @@
 -- The journal: where an entry is legal, and the state after it.
-use Rattle.std.specs.Prelude.{◌≡◌, ℕ, ◌+◌, ◌-◌, ◌^◌, ◌<◌, ◌≤◌, ◌⊎◌, ⊤, List, [], ◌∷◌, length, take, Option, Some, None, IfSome}
+use Rattle.std.specs.Prelude.{◌≡◌, ℕ, ◌+◌, ◌-◌, ◌^◌, ◌<◌, ◌≤◌, ◌⊎◌, ⊤, List, [], ◌∷◌, length, take, false, Option, Some, None, IfSome, Ok}
 use Rattle.json_tree.specs.Tree.{Tree}
 use Rattle.shred_cols.specs.Row.{Version, id_of}
 use Rattle.shred_cols.specs.Rows.{Rows, with_version, without}
+use Rattle.update_ops.specs.Apply.{apply}
 use Rattle.col_keeper.specs.Tables.{Name, KeepsLimits, with_rows, with_collection, without_collection}
 use Rattle.store_core.specs.State.{State, Lives, IsGone, version}
 use Rattle.store_core.specs.declared.entry.Entry.{Entry}
 use Rattle.store_core.specs.declared.entry.Entry.TheVariants.{Opened, Created, Dropped, Changed, Failed}
 use Rattle.store_core.specs.declared.entry.Change.{Change}
-use Rattle.store_core.specs.declared.entry.Change.TheVariants.{Insert, Replace, Delete}
+use Rattle.store_core.specs.declared.entry.Change.TheVariants.{Insert, Replace, Update, Delete}
 
 -- the new document of a change, if it has one
 abbrev pub new_doc : Change → Option Tree
 new_doc (Insert doc) = Some doc
 new_doc (Replace doc) = Some doc
+new_doc (Update updates moment doc) = Some doc
 new_doc Delete = None
 
 -- the rows after a change of one id
@@ -33,11 +35,26 @@ after s (Failed by before count) = record s { faults = count }
 abbrev pub FitsVersion : Change → Option Version → Option ℕ → Type 0
 FitsVersion (Insert doc) found before = (found ≡ None) × (before ≡ None)
 FitsVersion (Replace doc) found before = (v : Version) × (found ≡ Some v) × (before ≡ Some v.tx)
+FitsVersion (Update updates moment doc) found before = (v : Version) × (found ≡ Some v) × (before ≡ Some v.tx)
 FitsVersion Delete found before = (v : Version) × (found ≡ Some v) × (before ≡ Some v.tx)
 
 -- a new document has the id, and breaks no limit
 abbrev pub FitsId : Tree → Option Tree → Type 0
 FitsId id doc = IfSome doc (λ d. (id_of d ≡ id) × KeepsLimits d)
+
+-- the new document of an update is what its clauses make, at its moment, of the document that stands there
+abbrev pub IsMade : Change → Option Version → Type 0
+IsMade (Insert doc) found = ⊤
+IsMade (Replace doc) found = ⊤
+IsMade (Update updates moment doc) found = IfSome found (λ v. apply updates v.doc moment false ≡ Ok doc)
+IsMade Delete found = ⊤
+
+-- the same where the number that stands there is the one that was read
+abbrev pub IsMadeOfRead : Change → Option ℕ → Option Version → Type 0
+IsMadeOfRead (Insert doc) read found = ⊤
+IsMadeOfRead (Replace doc) read found = ⊤
+IsMadeOfRead (Update updates moment doc) read found = IfSome found (λ v. read ≡ Some v.tx → apply updates v.doc moment false ≡ Ok doc)
+IsMadeOfRead Delete read found = ⊤
 
 -- the change may be made in this state, as the write of this number
 pub record LegalChange (s : State) (coll : Name) (id : Tree) (change : Change) (before : Option ℕ) (tx : ℕ) : Type 0 where
@@ -46,6 +63,7 @@ pub record LegalChange (s : State) (coll : Name) (id : Tree) (change : Change) (
   pub left : tx < 2 ^ 63 - 1
   pub new : FitsId id (new_doc change)
   pub found : FitsVersion change (version s coll id) before
+  pub made : IsMade change (version s coll id)
 
 -- the session was opened
 abbrev pub IsOpen : ℕ → State → Type 0

@@ -1,6 +1,7 @@
 pub mod State
 pub mod Journal
 pub mod Counts
+pub mod Numbers
 pub mod Store
 pub mod Tries
 pub mod Outcomes

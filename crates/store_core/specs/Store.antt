@@ -2,7 +2,7 @@
 use Rattle.std.specs.Prelude.{◌≡◌, ℕ, ◌+◌, ◌^◌, ◌<◌, ◌≤◌, List, Option, Some, refl}
 use Rattle.std.specs.Option.{option_map, ForSome}
 use Rattle.std.specs.Coded.{Coded, coded×, coded_ℕ, coded_list, coded_option, code_by}
-use Rattle.col_keeper.specs.Tables.{Tables}
+use Rattle.col_keeper.specs.Tables.{Tables, AreApart}
 use Rattle.store_core.specs.State.{State, IsOld, start_of, tables_of, state_code}
 use Rattle.store_core.specs.Journal.{replay, IsJournal}
 use Rattle.store_core.specs.Counts.{faults_after, opened_in, writes_in, AllBelow}
@@ -43,6 +43,7 @@ pub record Begins (first count : ℕ) (start : State) : Type 0 where
   pub none_open : start.sessions ≡ 0
   pub count_is : start.faults ≡ count
   pub old : IsOld start
+  pub apart : AreApart start.collections
 
 -- the keeper's tables are the replay of the journal, which is legal; the counts are those of the journal
 pub record IsHistory (start : Option State) (first count : ℕ) (journal : List Entry) (told : Option Tables) (failed : ℕ) : Type 0 where

@@ -6,7 +6,7 @@ use Rattle.shred_cols.specs.Rows.{Rows, version_of}
 use Rattle.store_core.specs.declared.keep.Tried.{Tried}
 use Rattle.store_core.specs.declared.keep.Tried.TheVariants as t
 use Rattle.store_core.specs.declared.entry.Change.{Change}
-use Rattle.store_core.specs.declared.entry.Change.TheVariants.{Insert, Replace, Delete}
+use Rattle.store_core.specs.declared.entry.Change.TheVariants.{Insert, Replace, Update, Delete}
 
 -- no number is read exactly for an insertion
 abbrev pub IsRead : Change → Option ℕ → Type 0
@@ -14,6 +14,8 @@ IsRead (Insert doc) None = ⊤
 IsRead (Insert doc) (Some tx) = ⊥
 IsRead (Replace doc) None = ⊥
 IsRead (Replace doc) (Some tx) = ⊤
+IsRead (Update updates moment doc) None = ⊥
+IsRead (Update updates moment doc) (Some tx) = ⊤
 IsRead Delete None = ⊥
 IsRead Delete (Some tx) = ⊤
 

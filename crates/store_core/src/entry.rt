@@ -1,12 +1,23 @@
 // The entries of a journal.
 use doc_paths::CollName;
 use json_tree::{Doc, DocId};
+use update_ops::Updates;
 
 /// What a write does to the document of an id.
 #[derive(Drop)]
 pub enum Change {
-    Insert { doc: Doc },
-    Replace { doc: Doc },
+    Insert {
+        doc: Doc,
+    },
+    Replace {
+        doc: Doc,
+    },
+    /// The document that the updates make, at this moment, of the one that stands there.
+    Update {
+        updates: Updates,
+        moment: i64,
+        doc: Doc,
+    },
     Delete,
 }
 

@@ -15,7 +15,7 @@ mod tests;
 mod writes;
 
 pub use entry::{Change, Entry};
-pub use laws::points_stay;
+pub use laws::{changes_follow, entries_tell_numbers, numbers_are_given_once, points_stay};
 pub use open::OpenFault;
 pub use outcome::{Listed, Looked, NoMemory, Paged, Shaped, WriteOutcome};
 pub use store::Store;

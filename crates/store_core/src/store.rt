@@ -2,6 +2,7 @@
 ghost use Rattle.std.specs.Prelude.{◌≡◌, ◌≢◌, ℕ, ◌+◌, ◌<◌, ◌≤◌, ◌-◌, ◌^◌, [], ◌∷◌, ◌++◌, length, IfOk, OnErr, Some, None};
 ghost use Rattle.std.specs.Option.{option_map, ForSome};
 ghost use Rattle.json_text.specs.Print.{capped};
+ghost use Rattle.col_keeper.specs.Tables.{AreApart};
 ghost use Rattle.store_core.specs.State.{tables_of};
 ghost use Rattle.store_core.specs.Journal.{replay};
 ghost use Rattle.store_core.specs.Counts.{opened_in, writes_in, size_in};
@@ -71,6 +72,7 @@ impl<K: Keeper> Store<K> {
         ensures len { result ≡ length self.now.journal }
         ensures kept { IsKept K.tables K.failed self.now }
         ensures lawful { IsLawful self.now }
+        ensures apart { ForSome self.now.start (λ b. AreApart b.collections) }
         ensures next { AtState self.now (λ s. s.next ≡ next_of self.now) }
         ensures sessions { AtState self.now (λ s. s.sessions ≡ opened_in self.now.journal) }
         ensures faults { AtState self.now (λ s. s.faults ≤ K.failed self.now.keeper) }

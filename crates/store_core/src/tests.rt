@@ -1,8 +1,8 @@
 // Writes through a store over a keeper in memory: where told calls of the keeper fail, and where the numbers end.
-ghost use Rattle.std.specs.Prelude.{◌≡◌, ◌<◌, ◌-◌, ◌^◌, Some, IfOk, IfSome};
-ghost use Rattle.shred_cols.specs.Row.{id_of};
+ghost use Rattle.std.specs.Prelude.{◌≡◌, ◌<◌, ◌-◌, ◌^◌, Option, Some, IfOk, IfSome};
+ghost use Rattle.shred_cols.specs.Row.{Version, id_of};
 ghost use Rattle.col_keeper.specs.Tables.{IsShort, KeepsLimits};
-ghost use Rattle.store_core.specs.Journal.{new_doc};
+ghost use Rattle.store_core.specs.Journal.{new_doc, IsMadeOfRead};
 ghost use Rattle.store_core.specs.Tries.{IsRead};
 
 use crate::entry::Change;
@@ -40,6 +40,7 @@ fn doc_of(alloc: Global, text: &str) -> Result<Option<Doc>, Fail>
 fn change_of(doc: Doc, read: Option<u64>) -> Change
     ensures read { IsRead result read }
     ensures new { new_doc result ≡ Some doc }
+    ensures made { (found : Option Version) → IsMadeOfRead result read found }
 {
     match read {
         Some(_) => Change::Replace { doc },

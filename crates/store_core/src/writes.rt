@@ -2,9 +2,10 @@
 ghost use Rattle.std.specs.Prelude.{◌≡◌, ◌+◌, ◌-◌, ◌^◌, ◌<◌, ◌≤◌, ◌++◌, length, Some, vec_len, vec_capacity};
 ghost use Rattle.json_text.specs.Print.{capped};
 ghost use Rattle.col_keeper.specs.Tables.{IsShort};
-ghost use Rattle.store_core.specs.Journal.{FitsId, new_doc};
+ghost use Rattle.store_core.specs.State.{version};
+ghost use Rattle.store_core.specs.Journal.{FitsId, IsMadeOfRead, new_doc};
 ghost use Rattle.store_core.specs.Counts.{opened_in, text_size};
-ghost use Rattle.store_core.specs.Store.{IsLawful, SameBase, next_of};
+ghost use Rattle.store_core.specs.Store.{IsLawful, SameBase, AtState, next_of};
 ghost use Rattle.store_core.specs.Tries.{IsRead};
 ghost use Rattle.store_core.specs.Outcomes.{Writes};
 ghost use Rattle.store_core.specs.Growth.{Grows};
@@ -38,6 +39,7 @@ fn text_size_of(change: &Change) -> u64
     match change {
         Change::Insert { doc } => text_len(doc.value()),
         Change::Replace { doc } => text_len(doc.value()),
+        Change::Update { doc, .. } => text_len(doc.value()),
         Change::Delete => 0,
     }
 }
@@ -79,6 +81,7 @@ impl<K: Keeper> Store<K> {
         requires read { IsRead change read }
         requires short { IsShort id.now }
         requires new { FitsId id.now (new_doc change) }
+        requires made { AtState self.old (λ s. IsMadeOfRead change read (version s coll.now id.now)) }
         ensures answers { Writes K.failed by coll.now id.now read change self.old self.new result }
         ensures spent { next_of self.old ≡ 2 ^ 63 - 1 → result ≡ VersionsSpent (length self.old.journal) }
         ensures grows { Grows (Some by) self.old.journal self.new.journal }
@@ -113,6 +116,7 @@ impl<K: Keeper> Store<K> {
         requires read { IsRead change read }
         requires short { IsShort id.now }
         requires new { FitsId id.now (new_doc change) }
+        requires made { AtState self.old (λ s. IsMadeOfRead change read (version s coll.now id.now)) }
         requires next { tx ≡ next_of self.old }
         requires left { tx < 2 ^ 63 - 1 }
         ensures answers { Writes K.failed by coll.now id.now read change self.old self.new result }

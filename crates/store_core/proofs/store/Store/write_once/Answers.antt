@@ -2,7 +2,10 @@ use Rattle.std.proofs.Common.{◌≡◌, ◌<◌, ◌^◌, ◌+◌, ◌∙◌, �
 use Rattle.std.specs.Prelude.{IfSome, Err}
 use Rattle.col_keeper.specs.declared.answer.KeepFault.{KeepFault}
 use Rattle.store_core.specs.Counts.{opened_in, writes_in}
-use Rattle.store_core.specs.Store.{Stored, next_of}
+use Rattle.std.specs.Option.{ForSome}
+use Rattle.store_core.specs.State.{version}
+use Rattle.store_core.specs.Journal.{IsMadeOfRead, replay}
+use Rattle.store_core.specs.Store.{Stored, next_of, told_start}
 use Rattle.store_core.specs.Outcomes.{fault_of}
 use Rattle.store_core.specs.declared.entry.Entry.{Entry}
 use Rattle.store_core.specs.declared.entry.Entry.TheVariants.{Changed}
@@ -19,13 +22,14 @@ pub invariant_of-self-in-Done : goal.invariant_of-self-in-Done
 invariant_of-self-in-Done g c =
     let known : c.args.by < opened_in c.self.inside.journal.items = subst (λ (s : Stored g.row.K.Denot). c.args.by < opened_in s.journal) (sym c.self.view_is) c.requires.known in
     let number : c.args.tx ≡ c.self.inside.first + writes_in c.self.inside.journal.items = subst (λ (s : Stored g.row.K.Denot). c.args.tx ≡ next_of s) (sym c.self.view_is) c.requires.next in
+    let made : ForSome (told_start g.K.Keeper.tables g.K.Keeper.failed c.self.inside.base.value) (λ b. IsMadeOfRead c.args.change c.args.read (version (replay b c.self.inside.journal.items) c.args.coll.now c.args.id.now)) = subst (λ (s : Stored g.row.K.Denot). ForSome s.start (λ b. IsMadeOfRead c.args.change c.args.read (version (replay b s.journal) c.args.coll.now c.args.id.now))) (sym c.self.view_is) c.requires.made in
     let journal : c.enter.new.journal.items ≡ c.self.inside.journal.items ++ Changed c.args.by c.args.coll.now c.args.id.now c.args.change c.args.read c.args.tx ∷ [] =
     c.enter.ensures.entered
     ∙ ap (λ (e : Entry). c.reserve.new.self.items ++ e ∷ []) c.changed-entry.ensures
     ∙ ap (λ (l : List Entry). l ++ Changed c.args.by c.in-Ok-Ok.name c.in-Ok-Ok.key c.args.change c.args.read c.args.tx ∷ []) c.reserve.ensures.items
     ∙ (λ i. c.self.inside.journal.items ++ Changed c.args.by (c.in-Ok-Ok.ensures.ok i) (c.in-Ok-Ok.ensures'.ok i) c.args.change c.args.read c.args.tx ∷ []) in
     wrote_so _ _ _ _ _ _ c.self.invariant.0 _ _ _ c.self.invariant.1 _ _ _ c.args.by c.args.coll.now c.args.id.now c.args.change c.args.read c.args.tx _ _ c.text_size_of-text.result
-    known number c.requires.left c.requires.new c.requires.read (c.in-Done.ensures.done refl) c.in-Done.ensures.answers c.keep.ensures.grows journal refl c.text_size_of-text.ensures c.enter.ensures.size
+    known number c.requires.left c.requires.new c.requires.read made (c.in-Done.ensures.done refl) c.in-Done.ensures.answers c.keep.ensures.grows journal refl c.text_size_of-text.ensures c.enter.ensures.size
 
 pub invariant_of-self-in-Failed : goal.invariant_of-self-in-Failed
 invariant_of-self-in-Failed g c =
