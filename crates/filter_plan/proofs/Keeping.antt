@@ -1,9 +1,8 @@
 -- What the proofs rest on of the values and texts that entries keep.
-use Rattle.std.specs.Ordering.{nat_cmp, ordering_then}
-use Rattle.std.specs.declared.cmp.Ordering.{Ordering}
-use Rattle.std.specs.declared.cmp.Ordering.TheVariants.{Less, Equal, Greater}
+use Rattle.std.specs.Ordering.{nat_cmp}
+use Rattle.std.specs.declared.cmp.Ordering.TheVariants.{Equal}
 use Rattle.std.specs.Cmp.Lexicographic.{slice_cmp}
-use Rattle.std.proofs.Common.{◌≡◌, take, zero, suc, ℕ, true, false, not, List, [], ◌∷◌, is_some, IsTrue, ◌↔◌, refl, sym}
+use Rattle.std.proofs.Common.{◌≡◌, ℕ, true, false, not, List, is_some, IsTrue, ◌↔◌, refl, sym}
 use Rattle.std.proofs.lemmas.Slice.Eq.{bytes_eq-Decides}
 use Rattle.json_tree.specs.Same.{same}
 use Rattle.json_tree.specs.Tree.{Tree, text}
@@ -41,16 +40,3 @@ whole_front t e = refl
 -- where fronts differ, they have the order of the texts
 pub front_order : (s t : List ℕ) → (slice_cmp nat_cmp (key_of s).0 (key_of t).0 ≡ Equal → ⊥) → slice_cmp nat_cmp s t ≡ slice_cmp nat_cmp (key_of s).0 (key_of t).0
 front_order s t h = refl
-
--- the same of fronts that are cut, for the time when they are
-pub cmp_front : (n : ℕ) (xs ys : List ℕ) → (slice_cmp nat_cmp (take n xs) (take n ys) ≡ Equal → ⊥) → slice_cmp nat_cmp xs ys ≡ slice_cmp nat_cmp (take n xs) (take n ys)
-cmp_front zero xs ys h = absurd (h refl)
-cmp_front (suc n) [] [] h = absurd (h refl)
-cmp_front (suc n) [] (y ∷ ys) h = refl
-cmp_front (suc n) (x ∷ xs) [] h = refl
-cmp_front (suc n) (x ∷ xs) (y ∷ ys) h = then_front (nat_cmp x y) (slice_cmp nat_cmp xs ys) (slice_cmp nat_cmp (take n xs) (take n ys)) h (cmp_front n xs ys)
-  where
-    then_front : (o a b : Ordering) → (ordering_then o b ≡ Equal → ⊥) → ((b ≡ Equal → ⊥) → a ≡ b) → ordering_then o a ≡ ordering_then o b
-    then_front Less a b h k = refl
-    then_front Equal a b h k = k h
-    then_front Greater a b h k = refl
