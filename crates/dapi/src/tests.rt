@@ -740,11 +740,11 @@ fn many_collections(alloc: Global) -> Result<String, Fail> {
     Ok(text)
 }
 
-// One row: a body of one byte too many, behind a line that is answered.
+// One row: a body that is too long, behind a line that is answered. The read behind the one that shows it would fail.
 fn long_body(alloc: Global) -> Result<String, Fail> {
-    let mut text = String::from_str(alloc, "run --collection=c | piece=60000\n")?;
+    let mut text = String::from_str(alloc, "run --collection=c | piece=60000 read=335\n")?;
     text.push_str("/v1/ks/c {\"insertOne\":{\"document\":{\"_id\":\"a\"}}}\n/v1/ks/c ")?;
-    let body = vec![in alloc; b' '; 20_000_001]?;
+    let body = vec![in alloc; b' '; 20_100_000]?;
     text.push_str(str::from_utf8(body.as_slice()).unwrap_or(""))?;
     text.push_str("\n=> 6\nline 2 is not a request\n{\"status\":{\"insertedIds\":[\"a\"]}}\n")?;
     Ok(text)
