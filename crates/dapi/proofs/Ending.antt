@@ -1,5 +1,6 @@
 -- What the program's call answers, by how its run ended.
-use Rattle.std.proofs.Common.{◌≡◌, ◌≤◌, ◌<◌, ◌^◌, ◌⊎◌, [], ℕ, ℤ, List, Option, Some, None, refl, sym, ◌∙◌, ap, subst, arith, inl, inr, codes}
+use Rattle.std.proofs.Common.{◌≡◌, ◌≤◌, ◌<◌, ◌+◌, ◌-◌, ◌^◌, ◌⊎◌, [], ℕ, ℤ, List, Option, Some, None, length, take, refl, sym, ◌∙◌, ap, subst, arith, inl, inr, codes}
+use Rattle.std.proofs.Math.Seq.{take-length}
 use Rattle.std.specs.Option.{option_map, ForSome}
 use Rattle.outside_io.specs.Causes.{Rose}
 use Rattle.outside_io.specs.Told.{Reading, Writing}
@@ -8,7 +9,7 @@ use Rattle.store_core.specs.State.{start_of, tables_of}
 use Rattle.store_core.specs.Journal.{replay}
 use Rattle.cmd_tasks.specs.declared.trace.Trace.{Trace}
 use Rattle.store_core.specs.Store.{Stored}
-use Rattle.store_core.specs.Opening.{opened_with, would_live, keeper_in, Refuses}
+use Rattle.store_core.specs.Opening.{missed, with_names, begun_with, opened_with, would_live, keeper_in, Refuses}
 use Rattle.store_core.specs.declared.entry.Entry.{Entry}
 use Rattle.store_core.specs.declared.open.OpenFault.{OpenFault}
 use Rattle.store_core.specs.declared.open.OpenFault.TheVariants as opens
@@ -21,7 +22,7 @@ use Rattle.dapi.specs.declared.words.WordFault.TheVariants as faults
 use Rattle.dapi.specs.Words.{RunsOn, IsUsage, IsWordFault}
 use Rattle.dapi.specs.Note.{status_of, note_of, note_at, line_note, word_status, open_status, open_note}
 use Rattle.dapi.specs.Ended.{EndsStore}
-use Rattle.dapi.specs.Top.{Runs, FailsOpening, IsOverfull}
+use Rattle.dapi.specs.Top.{Runs, FailsOpening, IsOverfull, ServesNone}
 use Rattle.dapi.proofs.Choosing.{same_collections}
 
 -- the line that a run stopped at, or 0
@@ -98,6 +99,16 @@ told_start : (count : ℕ) (collections : List (List ℕ)) (made told : Option T
 told_start count collections made None e = ap (option_map (start_of count)) e
 told_start count collections made (Some t) e = ap (option_map (start_of count)) e
 
+-- the tables of a state that begins with all of the missing collections: as many were made as were missing
+made_all : (count : ℕ) (collections : List (List ℕ)) (told : Option Tables) → (n : ℕ) × (option_map tables_of (option_map (λ t. start_of count (opened_with collections t)) told) ≡ option_map (begun_with n collections) told)
+made_all count collections None = (0, refl)
+made_all count collections (Some t) =
+    let opened : Tables = opened_with collections t in
+    let last : opened.last + 1 - 1 ≡ opened.last = omega arith in
+    let back : tables_of (start_of count opened) ≡ opened = λ i. record { collections = opened.collections; last = last i } in
+    let whole : take (length (missed collections t)) (missed collections t) ≡ missed collections t = take-length (missed collections t) in
+    (length (missed collections t), ap Some (back ∙ ap (λ (names : List (List ℕ)). with_names names t) (sym whole)))
+
 module _ {K : Type 0} (tables : K → Option Tables) (failed : K → ℕ) (words : List (List ℕ)) (given kept : K) (keyspace : List ℕ) (collections : List (List ℕ)) (store : Stored K) (times : Option (List ℤ))
     (asked : RunsOn words keyspace collections) (begins : (store.journal ≡ []) × (store.keeper ≡ store.base)) (made : tables store.base ≡ option_map (opened_with collections) (tables given))
     (start : store.start ≡ option_map (start_of (failed store.base)) (tables store.base)) (grows : failed given ≤ failed store.base) where
@@ -120,15 +131,30 @@ module _ {K : Type 0} (tables : K → Option Tables) (failed : K → ℕ) (words
       tables_are = e.tables_are;
     }
 
+  -- no session was opened: the missing collections were made, and nothing else was done
+  none_served : tables kept ≡ option_map (λ s. tables_of (replay s store.journal)) store.start → FailsOpening tables failed words given kept
+  none_served are =
+      let whole = made_all (failed store.base) collections (tables given) in
+      record {
+        keyspace = keyspace;
+        collections = collections;
+        asked = asked;
+        made = whole.0;
+        tables_are =
+            are ∙ ap (λ (journal : List Entry). option_map (λ s. tables_of (replay s journal)) store.start) begins.0
+            ∙ ap (option_map tables_of) (start ∙ told_start (failed store.base) collections (tables store.base) (tables given) made)
+            ∙ whole.1;
+      }
+
   -- how it ended, and that it did, or that no session was opened
   module _ {S W : Type 0} (source source' : S) (sink sink' : W) (from to : Reading) (before after : Writing) (status : ℕ) (how : RunHow) (is : status ≡ status_of how)
-      (ran : EndsStore tables failed keyspace store times kept from to before after how ⊎ ((how ≡ NoMemory) × (source' ≡ source) × (sink' ≡ sink))) where
+      (ran : EndsStore tables failed keyspace store times kept from to before after how ⊎ ((how ≡ NoMemory) × (source' ≡ source) × (sink' ≡ sink) × (tables kept ≡ option_map (λ s. tables_of (replay s store.journal)) store.start))) where
     begun : (n : ℕ) → (9 ≡ n → ⊥) → status ≡ n → EndsStore tables failed keyspace store times kept from to before after how
-    begun n other e = begun_with ran
+    begun n other e = did_begin ran
       where
-        begun_with : EndsStore tables failed keyspace store times kept from to before after how ⊎ ((how ≡ NoMemory) × (source' ≡ source) × (sink' ≡ sink)) → EndsStore tables failed keyspace store times kept from to before after how
-        begun_with (inl e') = e'
-        begun_with (inr none) = absurd (other (sym (ap status_of none.0) ∙ sym is ∙ e))
+        did_begin : EndsStore tables failed keyspace store times kept from to before after how ⊎ ((how ≡ NoMemory) × (source' ≡ source) × (sink' ≡ sink) × (tables kept ≡ option_map (λ s. tables_of (replay s store.journal)) store.start)) → EndsStore tables failed keyspace store times kept from to before after how
+        did_begin (inl e') = e'
+        did_begin (inr none) = absurd (other (sym (ap status_of none.0) ∙ sym is ∙ e))
 
     status_is : (n : ℕ) → status ≡ n → status_of how ≡ n
     status_is n e = sym is ∙ e
@@ -152,13 +178,13 @@ module _ {K : Type 0} (tables : K → Option Tables) (failed : K → ℕ) (words
       runs_so from to before after how (λ Served. ServesBefore Served from to before after (line_of how)) (λ P. when_wrong P from to before after how (status_is 6 e)) (begun 6 (λ n. Prim.cc n) e),
     )
 
-    pub ran_short : status ≡ 9 → ((source' ≡ source) × (sink' ≡ sink)) ⊎ Runs tables failed words given kept times (λ Served. ServesFirst Served from to before after)
+    pub ran_short : status ≡ 9 → ((source' ≡ source) × (sink' ≡ sink) × ServesNone tables failed words given kept) ⊎ Runs tables failed words given kept times (λ Served. ServesFirst Served from to before after)
     ran_short e = short ran
       where
-        short : EndsStore tables failed keyspace store times kept from to before after how ⊎ ((how ≡ NoMemory) × (source' ≡ source) × (sink' ≡ sink))
-            → ((source' ≡ source) × (sink' ≡ sink)) ⊎ Runs tables failed words given kept times (λ Served. ServesFirst Served from to before after)
+        short : EndsStore tables failed keyspace store times kept from to before after how ⊎ ((how ≡ NoMemory) × (source' ≡ source) × (sink' ≡ sink) × (tables kept ≡ option_map (λ s. tables_of (replay s store.journal)) store.start))
+            → ((source' ≡ source) × (sink' ≡ sink) × ServesNone tables failed words given kept) ⊎ Runs tables failed words given kept times (λ Served. ServesFirst Served from to before after)
         short (inl e') = inr (runs_so from to before after how (λ Served. ServesFirst Served from to before after) (λ P. when_short P from to before after how (status_is 9 e)) e')
-        short (inr none) = inl (none.1, none.2)
+        short (inr none) = inl (none.1, none.2, inr (none_served none.3))
 
 -- ---- a store that wasn't opened
 
@@ -174,6 +200,11 @@ module _ {K : Type 0} (tables : K → Option Tables) (failed : K → ℕ) (words
   refused_so Noted (opens.TooMany keeper) is back refuses noted four =
       inr (record { keyspace = keyspace; collections = collections; asked = asked; over = λ t told. let over = refuses t told in (over.0, ap tables back ∙ over.1) }, noted)
   refused_so Noted (opens.NoMemory keeper) is back refuses noted four = absurd (Prim.cc (sym is ∙ four))
+
+  pub refused_short : (fault : OpenFault K) → status ≡ open_status fault → kept ≡ keeper_in fault → Refuses tables failed collections given fault → status ≡ 9 → ServesNone tables failed words given kept
+  refused_short (opens.NoMemory keeper) is back refuses nine = inr (record { keyspace = keyspace; collections = collections; asked = asked; made = refuses.0; tables_are = ap tables back ∙ refuses.1 })
+  refused_short (opens.KeeperFault keeper b a) is back refuses nine = absurd (Prim.cc (sym is ∙ nine))
+  refused_short (opens.TooMany keeper) is back refuses nine = absurd (Prim.cc (sym is ∙ nine))
 
 pub refused_noted : {K : Type 0} (status : ℕ) (Noted : List ℕ → Type 0) (fault : OpenFault K) → status ≡ open_status fault → Noted (open_note fault) → (status ≡ 4 → ⊥) → Noted (note_at status)
 refused_noted status Noted (opens.KeeperFault keeper b a) is noted other = absurd (other is)
@@ -221,9 +252,14 @@ module _ {K : Type 0} (tables : K → Option Tables) (failed : K → ℕ) (keysp
     tables_are = tables_are ∙ ap (option_map (λ s. tables_of (replay s new.journal))) base;
   }
 
-  pub store_ran : (Kept : List Trace → Type 0) (None_kept Same_journal Same_source Same_sink : Type 0)
+  pub store_ran : (Kept : List Trace → Type 0) (None_kept Same_source Same_sink : Type 0)
       → ((traces : List Trace) × Kept traces × EndsRun (ServesLines keyspace old.start (record { journal = old.journal; failed = failed old.keeper; traces = []; times = times }) (record { journal = new.journal; failed = failed new.keeper; traces = traces; times = later })) from to before after how)
-      ⊎ ((how ≡ NoMemory) × None_kept × Same_journal × Same_source × Same_sink)
-      → EndsStore tables failed keyspace old times kept from to before after how ⊎ ((how ≡ NoMemory) × Same_source × Same_sink)
-  store_ran Kept None_kept Same_journal Same_source Same_sink (inl e) = inl (store_ends e.0 e.2)
-  store_ran Kept None_kept Same_journal Same_source Same_sink (inr none) = inr (none.0, none.3, none.4)
+      ⊎ ((how ≡ NoMemory) × None_kept × (new.journal ≡ old.journal) × Same_source × Same_sink)
+      → EndsStore tables failed keyspace old times kept from to before after how ⊎ ((how ≡ NoMemory) × Same_source × Same_sink × (tables kept ≡ option_map (λ s. tables_of (replay s old.journal)) old.start))
+  store_ran Kept None_kept Same_source Same_sink (inl e) = inl (store_ends e.0 e.2)
+  store_ran Kept None_kept Same_source Same_sink (inr none) = inr (
+    none.0,
+    none.3,
+    none.4,
+    tables_are ∙ ap (option_map (λ s. tables_of (replay s new.journal))) base ∙ ap (λ (journal : List Entry). option_map (λ s. tables_of (replay s journal)) old.start) none.2,
+  )

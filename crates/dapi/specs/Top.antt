@@ -1,5 +1,5 @@
 -- What a run makes of the keeper that it is given.
-use Rattle.std.specs.Prelude.{◌≡◌, ℕ, ℤ, ◌≤◌, ◌<◌, List, [], Option}
+use Rattle.std.specs.Prelude.{◌≡◌, ◌⊎◌, ℕ, ℤ, ◌≤◌, ◌<◌, List, [], Option}
 use Rattle.std.specs.Option.{option_map, ForSome}
 use Rattle.col_keeper.specs.Tables.{Tables}
 use Rattle.store_core.specs.State.{State, start_of, tables_of}
@@ -27,7 +27,7 @@ module _ {K : Type 0} (tables : K → Option Tables) (failed : K → ℕ) (words
     pub ended : Ended (ServesLines keyspace start (record { journal = []; failed = count; traces = []; times = times }) (record { journal = history; failed = failed kept; traces = traces; times = later }))
     pub tables_are : tables kept ≡ option_map (λ s. tables_of (replay s history)) start
 
-  -- The store wasn't opened: a call of the keeper failed, of which the missing collections that were made before are the first
+  -- the store wasn't opened; of the missing collections some first ones were made, in order
   pub record FailsOpening : Type 0 where
     pub keyspace : List ℕ
     pub collections : List (List ℕ)
@@ -41,3 +41,7 @@ module _ {K : Type 0} (tables : K → Option Tables) (failed : K → ℕ) (words
     pub collections : List (List ℕ)
     pub asked : RunsOn words keyspace collections
     pub over : ForSome (tables given) (λ t. (100 < would_live collections t) × (tables kept ≡ tables given))
+
+  -- no request was served: the keeper is as it was, or some first ones of the missing collections were made
+  abbrev pub ServesNone : Type 0
+  ServesNone = (kept ≡ given) ⊎ FailsOpening

@@ -1,15 +1,15 @@
-//! The top call on streams in memory.
-use crate::top::{dapi, refuse_words};
-use crate::words::WordFault;
+//! The top call on streams in memory: a table of calls, each with what it writes.
+use crate::top::dapi;
 use keeper_mem::MemKeeper;
-use outside_io::{ListClock, MemSink, MemSource, Source};
-use std::alloc::AllocError;
+use outside_io::{ListClock, MemSink, MemSource};
+use std::alloc::{AllocError, Global};
 use std::fmt::Write;
-use std::process::Abort;
 use std::test::Fail;
 
-// Requests on the collection `c`, an empty line and a CR alone among them. The last line has no LF.
-const REQUESTS: &str = r#"/v1/ks/c {"insertOne":{"document":{"_id":"a","n":1.50}}}
+// A row is a line of words, perhaps with ` | ` and settings; the input, whose last LF isn't its own; and behind `=> ` the
+// status, the notes and the output. `---` and an LF stand behind the last byte of output.
+const REQUESTS: &str = r#"run --collection=c
+/v1/ks/c {"insertOne":{"document":{"_id":"a","n":1.50}}}
 /v1/ks/c {"insertOne":{"document":{"_id":"a","n":1.50}}}
 
 /v1/ks/c {"insertOne":01}
@@ -38,9 +38,9 @@ const REQUESTS: &str = r#"/v1/ks/c {"insertOne":{"document":{"_id":"a","n":1.50}
 /v1/ks/c {"insertOne":{"document":{"_id":"q\"\u0001"}}}
 /v1/ks/c {"insertOne":{"document":{"_id":"q\"\u0001"}}}
 /v1/ks/c {"insertOne":{"document":{"_id":null}}}
-/v1/ks/c {"insertOne":{"document":{"_id":true}}}"#;
-
-const REPLIES: &str = r#"{"status":{"insertedIds":["a"]}}
+/v1/ks/c {"insertOne":{"document":{"_id":true}}}
+=> 0
+{"status":{"insertedIds":["a"]}}
 {"errors":[{"message":"Document \"a\" already exists at version 1","errorCode":"DOCUMENT_ALREADY_EXISTS"}]}
 {"errors":[{"message":"Body is not JSON at byte 13","errorCode":"INVALID_JSON"}]}
 {"errors":[{"message":"Body is not JSON at byte 13","errorCode":"INVALID_JSON"}]}
@@ -69,167 +69,48 @@ const REPLIES: &str = r#"{"status":{"insertedIds":["a"]}}
 {"errors":[{"message":"Document \"q\\\"\\u0001\" already exists at version 6","errorCode":"DOCUMENT_ALREADY_EXISTS"}]}
 {"status":{"insertedIds":[null]}}
 {"status":{"insertedIds":[true]}}
-"#;
-
-const USAGE: &str = "usage: dapi run|mix|gen N SEED|check|serve --listen=A [options]\n";
-
-const LINE: &str = "/v1/ks/c {\"insertOne\":{\"document\":{\"_id\":\"a\"}}}\n";
-
-const REPLY: &str = "{\"status\":{\"insertedIds\":[\"a\"]}}\n";
-
-// What a call is given. Reads give at most `piece` bytes, and the sink takes `room`; of the keeper's calls one fails, and its
-// last write has the number `last`.
-#[derive(Clone, Copy)]
-struct Call<'a> {
-    words: &'a str,
-    input: &'a str,
-    piece: usize,
-    reads_fail: u64,
-    writes_fail: u64,
-    room: usize,
-    keeper_fails: u64,
-    last: u64,
-}
-
-const ON_C: Call<'static> = Call {
-    words: "run --collection=c",
-    input: "",
-    piece: 1000,
-    reads_fail: 0,
-    writes_fail: 0,
-    room: 10_000,
-    keeper_fails: 0,
-    last: 0,
-};
-
-// The words, one behind another.
-fn split_words<R: AllocGlobal>(rt: &R, text: &str) -> Result<Vec<String>, Fail> {
-    let alloc = rt.alloc();
-    let mut words = Vec::new(alloc);
-    for word in text.split_ascii_whitespace() {
-        words.push(String::from_str(alloc, word)?)?;
-    }
-    Ok(words)
-}
-
-// Makes the call over a keeper, which has to answer this status, with this output and these notes.
-fn calls_over<R: Abort + AllocGlobal>(
-    rt: &R,
-    keeper: MemKeeper,
-    call: Call<'_>,
-    status: u8,
-    output: &str,
-    note: &str,
-) -> Result<MemKeeper, Fail> {
-    let alloc = rt.alloc();
-    let words = split_words(rt, call.words)?;
-    let input = call.input.as_bytes().to_vec(alloc)?;
-    let reads_fail = [call.reads_fail].to_vec(alloc)?;
-    let writes_fail = [call.writes_fail].to_vec(alloc)?;
-    let mut source = MemSource::new(input, call.piece.max(1), reads_fail);
-    let mut sink = MemSink::new(alloc, call.room, writes_fail)?;
-    let mut notes = MemSink::new(alloc, 100, Vec::new(alloc))?;
-    let mut clock = ListClock::new(Vec::new(alloc));
-    let words = words.as_slice();
-    let (answer, keeper) = dapi(
-        alloc,
-        words,
-        &mut source,
-        &mut sink,
-        &mut notes,
-        keeper,
-        &mut clock,
-        &[0; 28],
-    );
-    assert_eq!(rt; answer, status, "at {}", call.input);
-    assert_eq!(rt; sink.bytes(), output.as_bytes());
-    assert_eq!(rt; notes.bytes(), note.as_bytes());
-    Ok(keeper)
-}
-
-// Makes the call over a new keeper.
-fn calls<R: Abort + AllocGlobal>(
-    rt: &R,
-    call: Call<'_>,
-    status: u8,
-    output: &str,
-    note: &str,
-) -> Result<(), Fail> {
-    let alloc = rt.alloc();
-    let fails = [call.keeper_fails].to_vec(alloc)?;
-    let keeper = MemKeeper::new(alloc, fails, call.last.min(9_223_372_036_854_775_806));
-    let _ = calls_over(rt, keeper, call, status, output, note)?;
-    Ok(())
-}
-
-// A run, its lines and replies.
-#[derive(Clone, Copy)]
-struct Row<'a> {
-    call: Call<'a>,
-    status: u8,
-    output: &'a str,
-    note: &'a str,
-}
-
-const ROWS: [Row<'static>; 8] = [
-    Row {
-        call: Call {
-            input: r#"/v1/ks/c {"insertOne":{"document":{"_id":"a","n":1.50}}}
+---
+run --collection=c
+/v1/ks/c {"insertOne":{"document":{"_id":"a","n":1.50}}}
 /v1/ks/c {"findOne":{"filter":{"_id":"a"}}}
 /v1/ks/c {"findOne":{"filter":{"_id":"x"}}}
 /v1/ks/c {"findOne":{}}
 /v1/ks/zz {"findOne":{}}
 /v1/ks/zz {"insertOne":{"document":{"_id":1}}}
-/v1/ks/9c {"findOne":{}}"#,
-            ..ON_C
-        },
-        status: 0,
-        output: r#"{"status":{"insertedIds":["a"]}}
+/v1/ks/9c {"findOne":{}}
+=> 0
+{"status":{"insertedIds":["a"]}}
 {"data":{"document":{"_id":"a","n":1.5}}}
 {"data":{"document":null}}
 {"data":{"document":{"_id":"a","n":1.5}}}
 {"errors":[{"message":"Collection zz does not exist","errorCode":"COLLECTION_NOT_EXIST"}]}
 {"errors":[{"message":"Collection zz does not exist","errorCode":"COLLECTION_NOT_EXIST"}]}
 {"errors":[{"message":"Collection name is invalid: 9c","errorCode":"INVALID_COLLECTION_NAME"}]}
-"#,
-        note: "",
-    },
-    Row {
-        call: Call {
-            input: r#"/v1/ks/c {"insertOne":{"document":{"_id":"b","n":99999999999999999999.999999999999999999,"e":1e3,"z":-0}}}
-/v1/ks/c {"findOne":{"filter":{"_id":"b"}}}"#,
-            ..ON_C
-        },
-        status: 0,
-        output: r#"{"status":{"insertedIds":["b"]}}
+---
+run --collection=c
+/v1/ks/c {"insertOne":{"document":{"_id":"b","n":99999999999999999999.999999999999999999,"e":1e3,"z":-0}}}
+/v1/ks/c {"findOne":{"filter":{"_id":"b"}}}
+=> 0
+{"status":{"insertedIds":["b"]}}
 {"data":{"document":{"_id":"b","n":99999999999999999999.999999999999999999,"e":1000,"z":0}}}
-"#,
-        note: "",
-    },
-    Row {
-        call: Call {
-            input: r#"/v1/ks/c {"insertOne":{"document":{"_id":"t","tags":["x",null,{"k":1}]}}}
+---
+run --collection=c
+/v1/ks/c {"insertOne":{"document":{"_id":"t","tags":["x",null,{"k":1}]}}}
 /v1/ks/c {"countDocuments":{"filter":{"tags":"x"}}}
 /v1/ks/c {"countDocuments":{"filter":{"tags":null}}}
 /v1/ks/c {"countDocuments":{"filter":{"tags.2.k":1}}}
 /v1/ks/c {"countDocuments":{"filter":{"tags":{"$size":3}}}}
-/v1/ks/c {"countDocuments":{"filter":{"tags":{"$ne":"x"}}}}"#,
-            ..ON_C
-        },
-        status: 0,
-        output: r#"{"status":{"insertedIds":["t"]}}
+/v1/ks/c {"countDocuments":{"filter":{"tags":{"$ne":"x"}}}}
+=> 0
+{"status":{"insertedIds":["t"]}}
 {"status":{"count":1}}
 {"status":{"count":1}}
 {"status":{"count":1}}
 {"status":{"count":1}}
 {"status":{"count":0}}
-"#,
-        note: "",
-    },
-    Row {
-        call: Call {
-            words: "run --keyspace=k2 --collection=c --collection=d --collection=c",
-            input: r#"/v1/k2/d {"insertOne":{"document":{"_id":"1","a":{"0":5}}}}
+---
+run --keyspace=k2 --collection=c --collection=d --collection=c
+/v1/k2/d {"insertOne":{"document":{"_id":"1","a":{"0":5}}}}
 /v1/k2/d {"insertOne":{"document":{"_id":"2","a":[5]}}}
 /v1/k2/d {"countDocuments":{"filter":{"a.0":5}}}
 /v1/k2/c {"insertOne":{"document":{"_id":"a"}}}
@@ -238,11 +119,9 @@ const ROWS: [Row<'static>; 8] = [
 /v1/k2/c {"countDocuments":{"filter":{"$not":{"x":{"$gt":1}}}}}
 /v1/k2/c {"countDocuments":{"filter":{"x":{"$exists":false}}}}
 /v1/k2/c {"countDocuments":{"filter":{"x":null}}}
-/v1/ks/c {"countDocuments":{}}"#,
-            ..ON_C
-        },
-        status: 0,
-        output: r#"{"status":{"insertedIds":["1"]}}
+/v1/ks/c {"countDocuments":{}}
+=> 0
+{"status":{"insertedIds":["1"]}}
 {"status":{"insertedIds":["2"]}}
 {"status":{"count":2}}
 {"status":{"insertedIds":["a"]}}
@@ -252,116 +131,518 @@ const ROWS: [Row<'static>; 8] = [
 {"status":{"count":1}}
 {"status":{"count":0}}
 {"errors":[{"message":"Keyspace ks does not exist","errorCode":"KEYSPACE_NOT_EXIST"}]}
-"#,
-        note: "",
-    },
-    Row {
-        call: Call {
-            input: LINE,
-            keeper_fails: 2,
-            ..ON_C
-        },
-        status: 4,
-        output: "",
-        note: "keeper fault\n",
-    },
-    Row {
-        call: Call {
-            input: r#"/v1/ks/c {"insertOne":{"document":{"_id":"a"}}}
+---
+run --collection=c | keeper=2
 /v1/ks/c {"insertOne":{"document":{"_id":"a"}}}
-/v1/ks/c {"insertOne":{"document":{"_id":"a"}}}"#,
-            keeper_fails: 3,
-            ..ON_C
-        },
-        status: 0,
-        output: r#"{"errors":[{"message":"Store fault: 0 then 1","errorCode":"STORE_FAULT"}]}
+
+=> 4
+keeper fault
+---
+run --collection=c | keeper=3
+/v1/ks/c {"insertOne":{"document":{"_id":"a"}}}
+/v1/ks/c {"insertOne":{"document":{"_id":"a"}}}
+/v1/ks/c {"insertOne":{"document":{"_id":"a"}}}
+=> 0
+{"errors":[{"message":"Store fault: 0 then 1","errorCode":"STORE_FAULT"}]}
 {"status":{"insertedIds":["a"]}}
 {"errors":[{"message":"Document \"a\" already exists at version 1","errorCode":"DOCUMENT_ALREADY_EXISTS"}]}
-"#,
-        note: "",
-    },
-    Row {
-        call: Call {
-            input: r#"/v1/ks/c {"insertOne":{"document":{"_id":"a"}}}
+---
+run --collection=c | last=9223372036854775805
+/v1/ks/c {"insertOne":{"document":{"_id":"a"}}}
 /v1/ks/c {"insertOne":{"document":{"_id":"b"}}}
-/v1/ks/c {"countDocuments":{}}"#,
-            last: 9_223_372_036_854_775_805,
-            ..ON_C
-        },
-        status: 0,
-        output: r#"{"status":{"insertedIds":["a"]}}
+/v1/ks/c {"countDocuments":{}}
+=> 0
+{"status":{"insertedIds":["a"]}}
 {"errors":[{"message":"No version numbers are left","errorCode":"VERSIONS_SPENT"}]}
 {"status":{"count":1}}
-"#,
-        note: "",
-    },
-    Row {
-        call: Call {
-            words: "run",
-            input: "hello",
-            ..ON_C
-        },
-        status: 6,
-        output: "",
-        note: "line 1 is not a request\n",
-    },
-];
+---
+run
+hello
+=> 6
+line 1 is not a request
+---
+"#;
 
-#[test]
-fn rows_are_answered(rt: HostRuntime) -> Result<(), Fail> {
-    for row in ROWS {
-        calls(&rt, row.call, row.status, row.output, row.note)?;
-    }
-    Ok(())
+const WORDS: &str = r#"
+=> 1
+usage: dapi run|mix|gen N SEED|check|serve --listen=A [options]
+---
+fly
+=> 1
+usage: dapi run|mix|gen N SEED|check|serve --listen=A [options]
+---
+run --collection=
+=> 1
+usage: dapi run|mix|gen N SEED|check|serve --listen=A [options]
+---
+run --collection=9c
+=> 1
+usage: dapi run|mix|gen N SEED|check|serve --listen=A [options]
+---
+run --collection=c x
+=> 1
+usage: dapi run|mix|gen N SEED|check|serve --listen=A [options]
+---
+run -collection=c
+=> 1
+usage: dapi run|mix|gen N SEED|check|serve --listen=A [options]
+---
+--collection=c run
+=> 1
+usage: dapi run|mix|gen N SEED|check|serve --listen=A [options]
+---
+run --keyspace=
+=> 1
+usage: dapi run|mix|gen N SEED|check|serve --listen=A [options]
+---
+run --keyspace=a --keyspace=a
+=> 1
+usage: dapi run|mix|gen N SEED|check|serve --listen=A [options]
+---
+run --keyspace=a --collection=c --keyspace=a
+=> 1
+usage: dapi run|mix|gen N SEED|check|serve --listen=A [options]
+---
+run --store=memory
+=> 1
+usage: dapi run|mix|gen N SEED|check|serve --listen=A [options]
+---
+run --collection=ABCDEFGHIJKLMNOPQRSTUVWXYZ_abcdefghijklmnopqrstuv
+=> 1
+usage: dapi run|mix|gen N SEED|check|serve --listen=A [options]
+---
+run --collection=ABCDEFGHIJKLMNOPQRSTUVWXYZ_abcdefghijklmnopqrstu
+=> 0
+---
+"#;
+
+// With and without a feed at the end; lines that aren't requests; a read, a write or a sink's room that ends.
+const STREAMS: &str = r#"run --collection=c
+=> 0
+---
+run --collection=c
+/v1/ks/c {"insertOne":{"document":{"_id":"a"}}}
+
+=> 0
+{"status":{"insertedIds":["a"]}}
+---
+run --collection=c
+/v1/ks/c {"insertOne":{"document":{"_id":"a"}}}
+=> 0
+{"status":{"insertedIds":["a"]}}
+---
+run --collection=c
+/v1/ks/c {"insertOne":{"document":{"_id":"a"}}}
+/v1/ks/c {"insertOne":{"document":{"_id":"a"}}}
+hello
+
+=> 6
+line 3 is not a request
+{"status":{"insertedIds":["a"]}}
+{"errors":[{"message":"Document \"a\" already exists at version 1","errorCode":"DOCUMENT_ALREADY_EXISTS"}]}
+---
+run --collection=c
+/v1/ks/c {"insertOne":{"document":{"_id":"a"}}}
+/v1/ks/c {"insertOne":{"document":{"_id":"a"}}}
+hello
+=> 6
+line 3 is not a request
+{"status":{"insertedIds":["a"]}}
+{"errors":[{"message":"Document \"a\" already exists at version 1","errorCode":"DOCUMENT_ALREADY_EXISTS"}]}
+---
+run --collection=c
+/v1/ks/c {"insertOne":{"document":{"_id":"a"}}}
+/v1/ks/c {"insertOne":{"document":{"_id":"a"}}}
+/v1/ks/c
+
+=> 6
+line 3 is not a request
+{"status":{"insertedIds":["a"]}}
+{"errors":[{"message":"Document \"a\" already exists at version 1","errorCode":"DOCUMENT_ALREADY_EXISTS"}]}
+---
+run --collection=c
+/v1/ks/c {"insertOne":{"document":{"_id":"a"}}}
+/v1/ks/c {"insertOne":{"document":{"_id":"a"}}}
+/v1/ks/c/d {}
+=> 6
+line 3 is not a request
+{"status":{"insertedIds":["a"]}}
+{"errors":[{"message":"Document \"a\" already exists at version 1","errorCode":"DOCUMENT_ALREADY_EXISTS"}]}
+---
+run --collection=c
+/v1/ks/c {"insertOne":{"document":{"_id":"a"}}}
+/v1/ks/c {"insertOne":{"document":{"_id":"a"}}}
+/v1//c {}
+=> 6
+line 3 is not a request
+{"status":{"insertedIds":["a"]}}
+{"errors":[{"message":"Document \"a\" already exists at version 1","errorCode":"DOCUMENT_ALREADY_EXISTS"}]}
+---
+run --collection=c
+/v1/ks/c {"insertOne":{"document":{"_id":"a"}}}
+/v1/ks/c {"insertOne":{"document":{"_id":"a"}}}
+/v1/ {}
+=> 6
+line 3 is not a request
+{"status":{"insertedIds":["a"]}}
+{"errors":[{"message":"Document \"a\" already exists at version 1","errorCode":"DOCUMENT_ALREADY_EXISTS"}]}
+---
+run --collection=c
+/v1/ks/c {"insertOne":{"document":{"_id":"a"}}}
+/v1/ks/c {"insertOne":{"document":{"_id":"a"}}}
+/v2/ks/c {}
+=> 6
+line 3 is not a request
+{"status":{"insertedIds":["a"]}}
+{"errors":[{"message":"Document \"a\" already exists at version 1","errorCode":"DOCUMENT_ALREADY_EXISTS"}]}
+---
+run --collection=c
+/v1/ks/c {"insertOne":{"document":{"_id":"a"}}}
+/v1/ks/c {"insertOne":{"document":{"_id":"a"}}}
+ /v1/ks/c {}
+=> 6
+line 3 is not a request
+{"status":{"insertedIds":["a"]}}
+{"errors":[{"message":"Document \"a\" already exists at version 1","errorCode":"DOCUMENT_ALREADY_EXISTS"}]}
+---
+run --collection=c
+/v1/ks/c {"insertOne":{"document":{"_id":"a"}}}
+/v1/ks/c {"insertOne":{"document":{"_id":"a"}}}
+x
+=> 6
+line 3 is not a request
+{"status":{"insertedIds":["a"]}}
+{"errors":[{"message":"Document \"a\" already exists at version 1","errorCode":"DOCUMENT_ALREADY_EXISTS"}]}
+---
+run --collection=c | piece=1000 read=1
+/v1/ks/c {"insertOne":{"document":{"_id":"a"}}}
+/v1/ks/c {"insertOne":{"document":{"_id":"a"}}}
+/v1/ks/c {"insertOne":{"document":{"_id":"a"}}}
+/v1/ks/c {
+=> 2
+read fault
+---
+run --collection=c | piece=1000 read=2
+/v1/ks/c {"insertOne":{"document":{"_id":"a"}}}
+/v1/ks/c {"insertOne":{"document":{"_id":"a"}}}
+/v1/ks/c {"insertOne":{"document":{"_id":"a"}}}
+/v1/ks/c {
+=> 2
+read fault
+{"status":{"insertedIds":["a"]}}
+{"errors":[{"message":"Document \"a\" already exists at version 1","errorCode":"DOCUMENT_ALREADY_EXISTS"}]}
+{"errors":[{"message":"Document \"a\" already exists at version 1","errorCode":"DOCUMENT_ALREADY_EXISTS"}]}
+---
+run --collection=c | piece=48 read=1
+/v1/ks/c {"insertOne":{"document":{"_id":"a"}}}
+/v1/ks/c {"insertOne":{"document":{"_id":"a"}}}
+/v1/ks/c {"insertOne":{"document":{"_id":"a"}}}
+/v1/ks/c {
+=> 2
+read fault
+---
+run --collection=c | piece=48 read=2
+/v1/ks/c {"insertOne":{"document":{"_id":"a"}}}
+/v1/ks/c {"insertOne":{"document":{"_id":"a"}}}
+/v1/ks/c {"insertOne":{"document":{"_id":"a"}}}
+/v1/ks/c {
+=> 2
+read fault
+{"status":{"insertedIds":["a"]}}
+---
+run --collection=c | piece=48 read=3
+/v1/ks/c {"insertOne":{"document":{"_id":"a"}}}
+/v1/ks/c {"insertOne":{"document":{"_id":"a"}}}
+/v1/ks/c {"insertOne":{"document":{"_id":"a"}}}
+/v1/ks/c {
+=> 2
+read fault
+{"status":{"insertedIds":["a"]}}
+{"errors":[{"message":"Document \"a\" already exists at version 1","errorCode":"DOCUMENT_ALREADY_EXISTS"}]}
+---
+run --collection=c | piece=48 read=5
+/v1/ks/c {"insertOne":{"document":{"_id":"a"}}}
+/v1/ks/c {"insertOne":{"document":{"_id":"a"}}}
+/v1/ks/c {"insertOne":{"document":{"_id":"a"}}}
+/v1/ks/c {
+=> 2
+read fault
+{"status":{"insertedIds":["a"]}}
+{"errors":[{"message":"Document \"a\" already exists at version 1","errorCode":"DOCUMENT_ALREADY_EXISTS"}]}
+{"errors":[{"message":"Document \"a\" already exists at version 1","errorCode":"DOCUMENT_ALREADY_EXISTS"}]}
+---
+run --collection=c | piece=47 read=2
+/v1/ks/c {"insertOne":{"document":{"_id":"a"}}}
+/v1/ks/c {"insertOne":{"document":{"_id":"a"}}}
+/v1/ks/c {"insertOne":{"document":{"_id":"a"}}}
+/v1/ks/c {
+=> 2
+read fault
+---
+run --collection=c | piece=49 read=2
+/v1/ks/c {"insertOne":{"document":{"_id":"a"}}}
+/v1/ks/c {"insertOne":{"document":{"_id":"a"}}}
+/v1/ks/c {"insertOne":{"document":{"_id":"a"}}}
+/v1/ks/c {
+=> 2
+read fault
+{"status":{"insertedIds":["a"]}}
+---
+run --collection=c | piece=95 read=3
+/v1/ks/c {"insertOne":{"document":{"_id":"a"}}}
+/v1/ks/c {"insertOne":{"document":{"_id":"a"}}}
+/v1/ks/c {"insertOne":{"document":{"_id":"a"}}}
+/v1/ks/c {
+=> 2
+read fault
+{"status":{"insertedIds":["a"]}}
+{"errors":[{"message":"Document \"a\" already exists at version 1","errorCode":"DOCUMENT_ALREADY_EXISTS"}]}
+{"errors":[{"message":"Document \"a\" already exists at version 1","errorCode":"DOCUMENT_ALREADY_EXISTS"}]}
+---
+run --collection=c | piece=96 read=2
+/v1/ks/c {"insertOne":{"document":{"_id":"a"}}}
+/v1/ks/c {"insertOne":{"document":{"_id":"a"}}}
+/v1/ks/c {"insertOne":{"document":{"_id":"a"}}}
+/v1/ks/c {
+=> 2
+read fault
+{"status":{"insertedIds":["a"]}}
+{"errors":[{"message":"Document \"a\" already exists at version 1","errorCode":"DOCUMENT_ALREADY_EXISTS"}]}
+---
+run --collection=c | piece=1 read=97
+/v1/ks/c {"insertOne":{"document":{"_id":"a"}}}
+/v1/ks/c {"insertOne":{"document":{"_id":"a"}}}
+/v1/ks/c {"insertOne":{"document":{"_id":"a"}}}
+/v1/ks/c {
+=> 2
+read fault
+{"status":{"insertedIds":["a"]}}
+{"errors":[{"message":"Document \"a\" already exists at version 1","errorCode":"DOCUMENT_ALREADY_EXISTS"}]}
+---
+run --collection=c | room=0
+/v1/ks/c {"insertOne":{"document":{"_id":"a"}}}
+/v1/ks/c {"insertOne":{"document":{"_id":"a"}}}
+/v1/ks/c {"insertOne":{"document":{"_id":"a"}}}
+hello
+
+=> 3
+write fault
+---
+run --collection=c | room=9
+/v1/ks/c {"insertOne":{"document":{"_id":"a"}}}
+/v1/ks/c {"insertOne":{"document":{"_id":"a"}}}
+/v1/ks/c {"insertOne":{"document":{"_id":"a"}}}
+hello
+
+=> 3
+write fault
+{"status"---
+run --collection=c | room=34
+/v1/ks/c {"insertOne":{"document":{"_id":"a"}}}
+/v1/ks/c {"insertOne":{"document":{"_id":"a"}}}
+/v1/ks/c {"insertOne":{"document":{"_id":"a"}}}
+hello
+
+=> 3
+write fault
+{"status":{"insertedIds":["a"]}}
+{---
+run --collection=c | room=35
+/v1/ks/c {"insertOne":{"document":{"_id":"a"}}}
+/v1/ks/c {"insertOne":{"document":{"_id":"a"}}}
+/v1/ks/c {"insertOne":{"document":{"_id":"a"}}}
+hello
+
+=> 3
+write fault
+{"status":{"insertedIds":["a"]}}
+{"---
+run --collection=c | room=100
+/v1/ks/c {"insertOne":{"document":{"_id":"a"}}}
+/v1/ks/c {"insertOne":{"document":{"_id":"a"}}}
+/v1/ks/c {"insertOne":{"document":{"_id":"a"}}}
+hello
+
+=> 3
+write fault
+{"status":{"insertedIds":["a"]}}
+{"errors":[{"message":"Document \"a\" already exists at version 1",---
+run --collection=c | write=1
+/v1/ks/c {"insertOne":{"document":{"_id":"a"}}}
+/v1/ks/c {"insertOne":{"document":{"_id":"a"}}}
+/v1/ks/c {"insertOne":{"document":{"_id":"a"}}}
+hello
+
+=> 3
+write fault
+---
+"#;
+
+// Lines of a CR alone are passed over, and a CR behind a body belongs to it.
+const RETURNS: &str = "run --collection=c\n\n\r\n\n=> 0\n---\n\
+run --collection=c\n\r\r\n=> 6\nline 1 is not a request\n---\n\
+run --collection=c\n/v1/ks/c {\"countDocuments\":{}}\r\n=> 0\n{\"status\":{\"count\":0}}\n---\n";
+
+// The reads of a row that sets none give so many bytes at most. A line of an insertion of `a` has 48.
+const PIECES: [u64; 9] = [1, 7, 47, 48, 49, 96, 144, 1000, 100_000];
+
+// How the objects of a call behave: the most bytes of a read, the read, the write and the keeper's call that fail, the bytes
+// that the sink takes, and the number of the keeper's last write.
+#[derive(Clone, Copy)]
+struct Settings {
+    piece: u64,
+    read: u64,
+    write: u64,
+    room: u64,
+    keeper: u64,
+    last: u64,
 }
 
-// `run`, and this many collections, whose names begin so.
-fn named_words<R: AllocGlobal>(rt: &R, count: usize) -> Result<String, AllocError> {
-    let mut words = String::from_str(rt.alloc(), "run")?;
-    for i in 0..count {
-        words.push_str(" --collection=n")?;
-        write!(words, "{i}")?;
+// A call, and what it has to write.
+#[derive(Clone, Copy)]
+struct Row<'a> {
+    words: &'a str,
+    settings: Settings,
+    input: &'a str,
+    answer: &'a str,
+}
+
+fn set(settings: &mut Settings, name: &str, value: u64) {
+    match name {
+        "piece" => settings.piece = value,
+        "read" => settings.read = value,
+        "write" => settings.write = value,
+        "room" => settings.room = value,
+        "keeper" => settings.keeper = value,
+        _ => settings.last = value,
+    }
+}
+
+fn settings_of(text: &str) -> Settings {
+    let mut settings = Settings {
+        piece: 0,
+        read: 0,
+        write: 0,
+        room: 1_000_000,
+        keeper: 0,
+        last: 0,
+    };
+    for setting in text.split(' ') {
+        if let Some((name, value)) = setting.split_once('=') {
+            set(&mut settings, name, value.parse::<u64>().unwrap_or(0));
+        }
+    }
+    settings
+}
+
+fn row_of(text: &str) -> Row<'_> {
+    let (call, answer) = text.split_once("\n=> ").unwrap_or((text, ""));
+    let (head, input) = call.split_once('\n').unwrap_or((call, ""));
+    let (words, settings) = head.split_once(" | ").unwrap_or((head, ""));
+    Row {
+        words,
+        settings: settings_of(settings),
+        input,
+        answer,
+    }
+}
+
+fn words_of(alloc: Global, text: &str) -> Result<Vec<String>, AllocError> {
+    let mut words = Vec::new(alloc);
+    for word in text.split_ascii_whitespace() {
+        words.push(String::from_str(alloc, word)?)?;
     }
     Ok(words)
 }
 
-#[test]
-fn a_hundred_collections_live(rt: HostRuntime) -> Result<(), Fail> {
-    let alloc = rt.alloc();
-    let keeper = MemKeeper::new(alloc, Vec::new(alloc), 0);
-    let keeper = calls_over(&rt, keeper, ON_C, 0, "", "")?;
-    let most = named_words(&rt, 99)?;
-    let call = Call {
-        words: most.as_str(),
-        ..ON_C
-    };
-    let keeper = calls_over(&rt, keeper, call, 0, "", "")?;
-    let more = named_words(&rt, 100)?;
-    let call = Call {
-        words: more.as_str(),
-        ..ON_C
-    };
-    let _ = calls_over(&rt, keeper, call, 4, "", "too many collections\n")?;
-    let over = named_words(&rt, 101)?;
-    let call = Call {
-        words: over.as_str(),
-        ..ON_C
-    };
-    calls(&rt, call, 1, "", USAGE)
+fn keeper_of(alloc: Global, settings: Settings) -> Result<MemKeeper, AllocError> {
+    let fails = Vec::from_array(alloc, [settings.keeper])?;
+    let last = settings.last.min(9_223_372_036_854_775_806);
+    Ok(MemKeeper::new(alloc, fails, last))
 }
 
-// Insertions of documents whose ids and members `k` are the numbers from one up to another.
-fn insertions<R: AllocGlobal>(rt: &R, from: u32, to: u32) -> Result<(String, String), AllocError> {
-    let mut input = String::new(rt.alloc());
-    let mut output = String::new(rt.alloc());
-    for i in from..to {
-        write!(
-            input,
-            "/v1/ks/c {{\"insertOne\":{{\"document\":{{\"_id\":{i},\"k\":{i}}}}}}}\n"
-        )?;
-        write!(output, "{{\"status\":{{\"insertedIds\":[{i}]}}}}\n")?;
+// Makes a row's call over a keeper, and tells whether it writes what it has to.
+fn is_answered(
+    alloc: Global,
+    row: Row<'_>,
+    piece: u64,
+    keeper: MemKeeper,
+) -> Result<(bool, MemKeeper), Fail> {
+    let words = words_of(alloc, row.words)?;
+    let input = row.input.as_bytes().to_vec(alloc)?;
+    let reads_fail = Vec::from_array(alloc, [row.settings.read])?;
+    let writes_fail = Vec::from_array(alloc, [row.settings.write])?;
+    let mut source = MemSource::new(input, piece.max(1) as usize, reads_fail);
+    let mut sink = MemSink::new(alloc, row.settings.room as usize, writes_fail)?;
+    let mut notes = MemSink::new(alloc, 100, Vec::new(alloc))?;
+    let mut clock = ListClock::new(Vec::new(alloc));
+    let words = words.as_slice();
+    let (status, keeper) = dapi(
+        alloc,
+        words,
+        &mut source,
+        &mut sink,
+        &mut notes,
+        keeper,
+        &mut clock,
+        &[0; 28],
+    );
+    let mut written = format!(in alloc; "{status}\n")?.into_bytes();
+    written.extend_from_slice(notes.bytes())?;
+    written.extend_from_slice(sink.bytes())?;
+    Ok((written.as_slice() == row.answer.as_bytes(), keeper))
+}
+
+// Makes a row's call over new keepers, with each of the pieces where it sets none.
+fn is_answered_in_pieces(alloc: Global, row: Row<'_>) -> Result<bool, Fail> {
+    for piece in PIECES {
+        let piece = if row.settings.piece == 0 {
+            piece
+        } else {
+            row.settings.piece
+        };
+        let keeper = keeper_of(alloc, row.settings)?;
+        if !is_answered(alloc, row, piece, keeper)?.0 {
+            return Ok(false);
+        }
     }
-    Ok((input, output))
+    Ok(true)
+}
+
+// The first row that isn't answered so.
+fn first_wrong<'a>(alloc: Global, rows: &'a str) -> Result<&'a str, Fail> {
+    for text in rows.split("---\n") {
+        if text.is_empty() {
+            continue;
+        }
+        if !is_answered_in_pieces(alloc, row_of(text))? {
+            return Ok(text);
+        }
+    }
+    Ok("")
+}
+
+#[test]
+fn calls_write_what_they_have_to(rt: HostRuntime) -> Result<(), Fail> {
+    for rows in [REQUESTS, WORDS, STREAMS, RETURNS] {
+        assert_eq!(rt; first_wrong(rt.alloc(), rows)?, "");
+    }
+    Ok(())
+}
+
+// Insertions of documents whose ids and members `k` are the numbers from one up to another, or the replies to them.
+fn add_insertions(text: &mut String, from: u32, to: u32, are_replies: bool) -> Result<(), Fail> {
+    for i in from..to {
+        if are_replies {
+            write!(text, "{{\"status\":{{\"insertedIds\":[{i}]}}}}\n")?;
+        } else {
+            write!(
+                text,
+                "/v1/ks/c {{\"insertOne\":{{\"document\":{{\"_id\":{i},\"k\":{i}}}}}}}\n"
+            )?;
+        }
+    }
+    Ok(())
 }
 
 const COUNTS: &str = r#"/v1/ks/c {"countDocuments":{}}
@@ -392,239 +673,93 @@ const COUNTED_MORE: &str = r#"{"status":{"count":1000,"moreData":true}}
 {"status":{"count":1000,"moreData":true}}
 "#;
 
-#[test]
-fn counts_end_past_a_thousand(rt: HostRuntime) -> Result<(), Fail> {
-    let (mut input, mut output) = insertions(&rt, 0, 1000)?;
-    let (last_input, last_output) = insertions(&rt, 1000, 1001)?;
-    for lines in [COUNTS, last_input.as_str(), MORE] {
-        input.push_str(lines)?;
-    }
-    for replies in [COUNTED, last_output.as_str(), COUNTED_MORE] {
-        output.push_str(replies)?;
-    }
-    let call = Call {
-        input: input.as_str(),
-        piece: 4096,
-        room: 100_000,
-        ..ON_C
-    };
-    calls(&rt, call, 0, output.as_str(), "")
-}
-
-#[test]
-fn requests_are_answered_in_any_pieces(rt: HostRuntime) -> Result<(), Fail> {
-    for piece in [1, 7, 64, 1000, 100_000] {
-        let call = Call {
-            input: REQUESTS,
-            piece,
-            ..ON_C
-        };
-        calls(&rt, call, 0, REPLIES, "")?;
+// These insertions, each list with the lines behind it.
+fn add_lists(
+    text: &mut String,
+    lists: [(u32, u32, &str); 2],
+    are_replies: bool,
+) -> Result<(), Fail> {
+    for (from, to, lines) in lists {
+        add_insertions(text, from, to, are_replies)?;
+        text.push_str(lines)?;
     }
     Ok(())
 }
 
-#[test]
-fn input_ends_with_or_without_a_feed(rt: HostRuntime) -> Result<(), Fail> {
-    let unended = LINE.trim_ascii_end();
-    for (input, output) in [("", ""), ("\n\r\n", ""), (LINE, REPLY), (unended, REPLY)] {
-        calls(&rt, Call { input, ..ON_C }, 0, output, "")?;
+// The first row that isn't answered so, all over one keeper.
+fn first_wrong_over<'a>(alloc: Global, keeper: MemKeeper, rows: &'a str) -> Result<&'a str, Fail> {
+    let mut keeper = keeper;
+    for text in rows.split("---\n") {
+        if text.is_empty() {
+            continue;
+        }
+        let row = row_of(text);
+        let (is_right, kept) = is_answered(alloc, row, row.settings.piece, keeper)?;
+        keeper = kept;
+        if !is_right {
+            return Ok(text);
+        }
     }
-    Ok(())
+    Ok("")
 }
 
-#[test]
-fn other_words_are_usage(rt: HostRuntime) -> Result<(), Fail> {
-    let words =
-        "fly|run --collection=|run --collection=9c|run --collection=c x|run -collection=c|--collection=c run|run --keyspace=|run --keyspace=a --keyspace=a|run --store=memory";
-    for words in words.split('|') {
-        calls(&rt, Call { words, ..ON_C }, 1, "", USAGE)?;
-    }
-    calls(&rt, Call { words: "", ..ON_C }, 1, "", USAGE)?;
-    let longest = "run --collection=ABCDEFGHIJKLMNOPQRSTUVWXYZ_abcdefghijklmnopqrstu";
-    calls(
-        &rt,
-        Call {
-            words: longest,
-            ..ON_C
-        },
-        0,
-        "",
-        "",
+// One row: a thousand documents are counted, and one more.
+fn many_counted(alloc: Global) -> Result<String, Fail> {
+    let mut text = String::from_str(alloc, "run --collection=c | piece=4096\n")?;
+    add_lists(&mut text, [(0, 1000, COUNTS), (1000, 1001, MORE)], false)?;
+    text.push_str("\n=> 0\n")?;
+    add_lists(
+        &mut text,
+        [(0, 1000, COUNTED), (1000, 1001, COUNTED_MORE)],
+        true,
     )?;
-    let longer = "run --collection=ABCDEFGHIJKLMNOPQRSTUVWXYZ_abcdefghijklmnopqrstuv";
-    calls(
-        &rt,
-        Call {
-            words: longer,
-            ..ON_C
-        },
-        1,
-        "",
-        USAGE,
-    )
+    Ok(text)
 }
 
-const TAKEN: &str =
-    "{\"errors\":[{\"message\":\"Document \\\"a\\\" already exists at version 1\",\"errorCode\":\"DOCUMENT_ALREADY_EXISTS\"}]}\n";
-
-// The replies to so many of the lines that are alike, as `three_lines` gives them.
-fn replies<R: AllocGlobal>(rt: &R, count: usize) -> Result<String, AllocError> {
-    let mut replies = String::new(rt.alloc());
+// A row that names so many collections, and its answer.
+fn add_collections(text: &mut String, count: u32, answer: &str) -> Result<(), Fail> {
+    text.push_str("run")?;
     for i in 0..count {
-        replies.push_str(if i == 0 { REPLY } else { TAKEN })?;
+        write!(text, " --collection=n{i}")?;
     }
-    Ok(replies)
-}
-
-// Three lines, and then this one.
-fn three_lines<R: AllocGlobal>(rt: &R, last: &str) -> Result<String, AllocError> {
-    let mut input = String::new(rt.alloc());
-    for _ in 0..3 {
-        input.push_str(LINE)?;
-    }
-    input.push_str(last)?;
-    Ok(input)
-}
-
-#[test]
-fn a_wrong_line_leaves_the_replies_before_it(rt: HostRuntime) -> Result<(), Fail> {
-    let output = replies(&rt, 3)?;
-    let wrong =
-        "hello\n|hello|/v1/ks/c\n|/v1/ks/c/d {}|/v1//c {}|/v1/ {}|/v2/ks/c {}| /v1/ks/c {}|\r\r";
-    for last in wrong.split('|') {
-        let input = three_lines(&rt, last)?;
-        for piece in [1, 2, 47, 48, 49, 96, 143, 144, 145, 1000] {
-            let call = Call {
-                input: input.as_str(),
-                piece,
-                ..ON_C
-            };
-            calls(&rt, call, 6, output.as_str(), "line 4 is not a request\n")?;
-        }
-    }
+    write!(text, "\n=> {answer}---\n")?;
     Ok(())
 }
 
-// Pieces, the read that fails, and how many lines were whole before it. A line has 48 bytes.
-const READS: [(usize, u64, usize); 11] = [
-    (1000, 1, 0),
-    (1000, 2, 3),
-    (48, 1, 0),
-    (48, 2, 1),
-    (48, 3, 2),
-    (48, 5, 3),
-    (47, 2, 0),
-    (49, 2, 1),
-    (95, 3, 3),
-    (96, 2, 2),
-    (1, 97, 2),
-];
+// Rows over one keeper: 100 collections live, and no more, and a call names no more.
+fn many_collections(alloc: Global) -> Result<String, Fail> {
+    let mut text = String::from_str(alloc, "run --collection=c\n=> 0\n---\n")?;
+    add_collections(&mut text, 99, "0\n")?;
+    add_collections(&mut text, 100, "4\ntoo many collections\n")?;
+    add_collections(&mut text, 99, "0\n")?;
+    add_collections(
+        &mut text,
+        101,
+        "1\nusage: dapi run|mix|gen N SEED|check|serve --listen=A [options]\n",
+    )?;
+    Ok(text)
+}
 
-#[test]
-fn a_failed_read_leaves_the_replies_so_far(rt: HostRuntime) -> Result<(), Fail> {
-    let input = three_lines(&rt, "/v1/ks/c {")?;
-    for (piece, reads_fail, whole) in READS {
-        let output = replies(&rt, whole)?;
-        let call = Call {
-            input: input.as_str(),
-            piece,
-            reads_fail,
-            ..ON_C
-        };
-        calls(&rt, call, 2, output.as_str(), "read fault\n")?;
-    }
-    Ok(())
+// One row: a body that is too long, behind a line that is answered. The read behind the one that shows it would fail.
+fn long_body(alloc: Global) -> Result<String, Fail> {
+    let mut text = String::from_str(alloc, "run --collection=c | piece=60000 read=335\n")?;
+    text.push_str("/v1/ks/c {\"insertOne\":{\"document\":{\"_id\":\"a\"}}}\n/v1/ks/c ")?;
+    let body = vec![in alloc; b' '; 20_100_000]?;
+    text.push_str(str::from_utf8(body.as_slice()).unwrap_or(""))?;
+    text.push_str("\n=> 6\nline 2 is not a request\n{\"status\":{\"insertedIds\":[\"a\"]}}\n")?;
+    Ok(text)
 }
 
 #[test]
-fn a_full_sink_has_a_front_of_the_replies(rt: HostRuntime) -> Result<(), Fail> {
-    let input = three_lines(&rt, "hello\n")?;
-    let all = replies(&rt, 3)?;
-    for piece in [1, 47, 48, 49, 1000] {
-        for room in [0, 9, 34, 35, 100] {
-            let front = String::from_str(rt.alloc(), all.as_str().get(..room).unwrap_or(""))?;
-            let call = Call {
-                input: input.as_str(),
-                piece,
-                room,
-                ..ON_C
-            };
-            calls(&rt, call, 3, front.as_str(), "write fault\n")?;
-        }
-        let failing = Call {
-            input: input.as_str(),
-            piece,
-            writes_fail: 1,
-            ..ON_C
-        };
-        calls(&rt, failing, 3, "", "write fault\n")?;
-    }
-    Ok(())
-}
-
-// A line with a body of so many spaces, behind one that is answered.
-fn long_line<R: AllocGlobal>(rt: &R, spaces: usize) -> Result<Vec<u8>, AllocError> {
-    let mut input = LINE.as_bytes().to_vec(rt.alloc())?;
-    input.extend_from_slice(b"/v1/ks/c ")?;
-    let body = vec![in rt.alloc(); b' '; spaces]?;
-    input.extend_from_slice(body.as_slice())?;
-    Ok(input)
-}
-
-#[test]
-fn a_body_is_refused_as_soon_as_it_is_too_long(rt: HostRuntime) -> Result<(), Fail> {
+fn bounds_are_kept(rt: HostRuntime) -> Result<(), Fail> {
     let alloc = rt.alloc();
-    let mut words = Vec::new(alloc);
-    words.push(String::from_str(alloc, "run")?)?;
-    words.push(String::from_str(alloc, "--collection=c")?)?;
-    let input = long_line(&rt, 20_000_001)?;
-    let mut source = MemSource::new(input, 60_000, Vec::new(alloc));
-    let mut sink = MemSink::new(alloc, 1000, Vec::new(alloc))?;
-    let mut notes = MemSink::new(alloc, 100, Vec::new(alloc))?;
-    let mut clock = ListClock::new(Vec::new(alloc));
-    let keeper = MemKeeper::new(alloc, Vec::new(alloc), 0);
-    let words = words.as_slice();
-    let (status, _) = dapi(
-        alloc,
-        words,
-        &mut source,
-        &mut sink,
-        &mut notes,
-        keeper,
-        &mut clock,
-        &[0; 28],
-    );
-    assert_eq!(rt; status, 6);
-    assert_eq!(rt; sink.bytes(), REPLY.as_bytes());
-    assert_eq!(rt; notes.bytes(), b"line 2 is not a request\n".as_slice());
-    Ok(())
-}
-
-#[test]
-fn usage_reads_and_writes_nothing(rt: HostRuntime) -> Result<(), Fail> {
-    let alloc = rt.alloc();
-    let mut source = MemSource::new(LINE.as_bytes().to_vec(alloc)?, 100, Vec::new(alloc));
-    let mut sink = MemSink::new(alloc, 100, Vec::new(alloc))?;
-    let mut notes = MemSink::new(alloc, 100, Vec::new(alloc))?;
-    let mut clock = ListClock::new(Vec::new(alloc));
-    let keeper = MemKeeper::new(alloc, Vec::new(alloc), 0);
-    let (status, _) = dapi(
-        alloc,
-        &[],
-        &mut source,
-        &mut sink,
-        &mut notes,
-        keeper,
-        &mut clock,
-        &[0; 28],
-    );
-    assert_eq!(rt; status, 1);
-    assert_eq!(rt; refuse_words(&mut notes, WordFault::NoMemory), 9);
-    let mut buffer = [0u8; 100];
-    assert_eq!(rt; source.read(&mut buffer), Ok(48));
-    let mut both = String::from_str(alloc, USAGE)?;
-    both.push_str("no memory\n")?;
-    assert_eq!(rt; notes.bytes(), both.as_bytes());
+    for text in [
+        many_counted(alloc)?,
+        many_collections(alloc)?,
+        long_body(alloc)?,
+    ] {
+        let keeper = MemKeeper::new(alloc, Vec::new(alloc), 0);
+        assert_eq!(rt; first_wrong_over(alloc, keeper, text.as_str())?, "");
+    }
     Ok(())
 }

@@ -1,13 +1,14 @@
 //! The program's top call.
 ghost use Rattle.std.specs.Prelude.{◌≡◌, ◌⊎◌, ◌≤◌, ◌<◌, ◌^◌, ℕ, List, codes, map, string_bytes, IsTrue};
-ghost use Rattle.std.specs.Option.{ForSome};
+ghost use Rattle.std.specs.Option.{ForSome, option_map};
 ghost use Rattle.outside_io.specs.Causes.{Rose};
 ghost use Rattle.outside_io.specs.Told.{IsHindered};
 ghost use Rattle.store_core.specs.Opening.{would_live, keeper_in};
-ghost use Rattle.store_core.specs.Store.{IsKept};
+ghost use Rattle.store_core.specs.State.{tables_of};
+ghost use Rattle.store_core.specs.Journal.{replay};
 ghost use Rattle.api_serve.specs.Run.{ServesInput, ServesWholeLines, ServesBefore, ServesCut, ServesFirst, HasRead};
 ghost use Rattle.dapi.specs.Words.{RunsOn, IsUsage};
-ghost use Rattle.dapi.specs.Top.{Runs, FailsOpening, IsOverfull};
+ghost use Rattle.dapi.specs.Top.{Runs, FailsOpening, IsOverfull, ServesNone};
 ghost use Rattle.dapi.specs.Note.{IsNoted, line_note, note_at, is_status, status_of, note_of, word_status, word_note, open_status, open_note};
 ghost use Rattle.dapi.specs.Ended.{EndsStore};
 
@@ -67,7 +68,8 @@ fn run_store<S: Source, W: Sink, E: Sink, K: Keeper, C: Clock>(
 ) -> (u8, K)
     ensures ran { (how : RunHow) × (result.0 ≡ status_of how) × IsNoted (E.writing notes.old) (E.writing notes.new) (note_of how)
         × (EndsStore K.tables K.failed keyspace.now store (C.times clock.old) result.1 (S.reading source.old) (S.reading source.new) (W.writing sink.old) (W.writing sink.new) how
-        ⊎ ((how ≡ RunHow.NoMemory) × (source.new ≡ source.old) × (sink.new ≡ sink.old))) }
+        ⊎ ((how ≡ RunHow.NoMemory) × (source.new ≡ source.old) × (sink.new ≡ sink.old)
+        × (K.tables result.1 ≡ option_map (λ s. tables_of (replay s store.journal)) store.start))) }
     ensures bounded { (count : ℕ) × (count ≤ 2 ^ 40) × HasRead (S.reading source.old) (S.reading source.new) count }
     ensures faults { K.failed store.keeper ≤ K.failed result.1 }
 {
@@ -129,8 +131,8 @@ pub fn dapi<S: Source, W: Sink, E: Sink, K: Keeper, C: Clock>(
         × Runs K.tables K.failed (map string_bytes words.now) keeper result.1 (C.times clock.old)
         (λ Served. ServesBefore Served (S.reading source.old) (S.reading source.new) (W.writing sink.old) (W.writing sink.new) line) }
 
-    // Memory ran out outside of a request: before anything was read or written, or the replies to some first requests stand, of the last perhaps a front.
-    ensures no_memory { result.0 ≡ 9 → ((source.new ≡ source.old) × (sink.new ≡ sink.old))
+    // Memory ran out outside of a request: before anything was read or written, and the keeper has perhaps some of the missing collections more; or the replies to some first requests stand, of the last perhaps a front.
+    ensures no_memory { result.0 ≡ 9 → ((source.new ≡ source.old) × (sink.new ≡ sink.old) × ServesNone K.tables K.failed (map string_bytes words.now) keeper result.1)
         ⊎ Runs K.tables K.failed (map string_bytes words.now) keeper result.1 (C.times clock.old)
         (λ Served. ServesFirst Served (S.reading source.old) (S.reading source.new) (W.writing sink.old) (W.writing sink.new)) }
 

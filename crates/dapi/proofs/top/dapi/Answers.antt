@@ -1,6 +1,6 @@
-use Rattle.std.proofs.Common.{inr, map, string_bytes, refl}
+use Rattle.std.proofs.Common.{inl, inr, map, string_bytes, refl}
 use Rattle.dapi.specs.Note.{IsNoted}
-use Rattle.dapi.proofs.Ending.{asked_as, ran_whole, ran_unread, ran_unwritten, ran_long, ran_wrong, ran_short, refused_so, refused_noted, unused_usage, unused_run, opened_few}
+use Rattle.dapi.proofs.Ending.{asked_as, ran_whole, ran_unread, ran_unwritten, ran_long, ran_wrong, ran_short, refused_so, refused_short, refused_noted, unused_usage, unused_run, opened_few}
 use Rattle.dapi.proofs.top.dapi.Goals as goal
 
 pub returns-in-Err-clause-usage : goal.returns-in-Err-clause-usage
@@ -56,6 +56,15 @@ returns-clause-unopened g c = λ four.
     refused_so g.K.Keeper.tables g.K.Keeper.failed (map string_bytes c.args.words.now) c.args.keeper c.refuse_store.result.1 c.in-Ok.job.keyspace c.as_slice.result.now c.refuse_store.result.0
     (asked_as _ c.in-Ok.job.keyspace c.in-Ok.job.keyspace c.in-Ok.job.collections.items c.as_slice.result.now refl c.as_slice.ensures.value c.in-Ok.ensures.ok)
     (IsNoted (g.E.Sink.writing c.args.notes.now) (g.E.Sink.writing c.refuse_store.new.notes)) c.in-Err-open.fault c.refuse_store.ensures.status c.refuse_store.ensures.kept c.in-Err-open.ensures.refused c.refuse_store.ensures.noted four
+
+pub returns-clause-no_memory : goal.returns-clause-no_memory
+returns-clause-no_memory g c = λ nine. inl (
+  refl,
+  refl,
+  refused_short g.K.Keeper.tables g.K.Keeper.failed (map string_bytes c.args.words.now) c.args.keeper c.refuse_store.result.1 c.in-Ok.job.keyspace c.as_slice.result.now c.refuse_store.result.0
+      (asked_as _ c.in-Ok.job.keyspace c.in-Ok.job.keyspace c.in-Ok.job.collections.items c.as_slice.result.now refl c.as_slice.ensures.value c.in-Ok.ensures.ok) c.in-Err-open.fault c.refuse_store.ensures.status
+      c.refuse_store.ensures.kept c.in-Err-open.ensures.refused nine,
+)
 
 pub returns-clause-noted : goal.returns-clause-noted
 returns-clause-noted g c = λ other six.
