@@ -12,7 +12,7 @@ use Rattle.shred_cols.specs.SortKey.{key_cmp}
 use Rattle.shred_cols.specs.declared.sort.SortKey.{SortKey}
 use Rattle.shred_cols.specs.Row.{Version, id_of}
 use Rattle.view_sort.specs.Sort.{directed, key_at, keys_cmp, found_cmp, IsFirstOf}
-use Rattle.view_sort.specs.Rank.{sided_key, sided_cmp, all_keys, rank_of, ranked_cmp}
+use Rattle.view_sort.specs.Rank.{sided_key, sided_cmp, all_keys, rank_of, ranked_cmp, IsLeast}
 
 then_equal : (o : Ordering) → ordering_then o Equal ≡ o
 then_equal Less = refl
@@ -51,18 +51,19 @@ unranked s ys up k d low within =
     let at : is_lt (ranked_cmp (get_or (map (rank_of s) ys) (k + 1) (rank_of s d)) (get_or (map (rank_of s) ys) k (rank_of s d))) ≡ false = up k (rank_of s d) low (omega arith) in
     ap is_lt (sym (rank_agrees s (get_or ys (k + 1) d) (get_or ys k d))) ∙ ap₂ (λ a b. is_lt (ranked_cmp a b)) (sym (get_or-map (rank_of s) ys (k + 1) d (rank_of s d) within)) (sym (get_or-map (rank_of s) ys k d (rank_of s d) (omega arith))) ∙ at
 
-pub order_is : (s : List (List ℕ × Bool)) (keep : ℕ) (xs ys : List Version) (rs qs : List (List (SortKey × SortKey) × Version)) → rs ≡ map (rank_of s) xs → IsPermutation rs qs → IsSorted ranked_cmp qs
-    → ys ≡ map (λ r. r.1) (take keep qs) → IsFirstOf s keep xs ys
-order_is s keep xs ys rs qs made same up first =
-    let all : All (IsRank s) qs = All-permutation (IsRank s) rs qs same (subst (All (IsRank s)) (sym made) (All-from_recursion (IsRank s) _ (ranks s xs))) in
+pub order_is : (s : List (List ℕ × Bool)) (keep : ℕ) (xs ys : List Version) (rs ks : List (List (SortKey × SortKey) × Version)) → rs ≡ map (rank_of s) xs → IsLeast ranked_cmp keep rs ks
+    → ys ≡ map (λ r. r.1) ks → IsFirstOf s keep xs ys
+order_is s keep xs ys rs ks made least first =
+    let qs = least.sorted in
+    let all : All (IsRank s) qs = All-permutation (IsRank s) rs qs least.same (subst (All (IsRank s)) (sym made) (All-from_recursion (IsRank s) _ (ranks s xs))) in
     let again = ranked_again s qs (recursion_from_All (IsRank s) qs all) in
     record {
       sorted = map (λ r. r.1) qs;
       sorts = record {
-        same = subst (λ l. IsPermutation l (map (λ r. r.1) qs)) (ap (map (λ r. r.1)) made ∙ map_back s xs) (IsPermutation-map (λ r. r.1) rs qs same);
-        ascending = unranked s (map (λ r. r.1) qs) (subst (IsSorted ranked_cmp) again up);
+        same = subst (λ l. IsPermutation l (map (λ r. r.1) qs)) (ap (map (λ r. r.1)) made ∙ map_back s xs) (IsPermutation-map (λ r. r.1) rs qs least.same);
+        ascending = unranked s (map (λ r. r.1) qs) (subst (IsSorted ranked_cmp) again least.ascending);
       };
-      first = first ∙ sym (take-map (λ r. r.1) keep qs);
+      first = first ∙ ap (map (λ r. r.1)) least.first ∙ sym (take-map (λ r. r.1) keep qs);
     }
 
 pub if_ok : {X E : Type 0} {P Q : X → Type 0} (r : Result X E) → IfOk r (λ x. P x) → ((x : X) → P x → Q x) → IfOk r (λ x. Q x)

@@ -72,6 +72,16 @@ begins_with_id (part ∷ more) = bytes_eq part id_name
 abbrev pub is_below_id : List ℕ → Bool
 is_below_id path = begins_with_id (parts path) && not (is_id path)
 
+abbrev pub is_on : Show → Bool
+is_on v.On = true
+is_on v.Off = false
+is_on (v.Slice s n) = false
+
+abbrev pub is_off : Show → Bool
+is_off v.On = false
+is_off v.Off = true
+is_off (v.Slice s n) = false
+
 abbrev pub is_slice : Show → Bool
 is_slice v.On = false
 is_slice v.Off = false
@@ -91,16 +101,20 @@ is_opposite v.On v.Off = true
 is_opposite v.Off v.On = true
 is_opposite s t = false
 
+-- some path other than `_id` has 1, and some has 0
+abbrev pub says_on : List (List ℕ × Show) → Bool
+says_on rules = list_any (λ r. not (is_id r.0) && is_on r.1) rules
+
+abbrev pub says_off : List (List ℕ × Show) → Bool
+says_off rules = list_any (λ r. not (is_id r.0) && is_off r.1) rules
+
 -- 0 and 1 at paths other than `_id`
 abbrev pub mixes : List ℕ × Show → List ℕ × Show → Bool
 mixes r e = not (is_id r.0) && (not (is_id e.0) && is_opposite r.1 e.1)
 
-abbrev pub clashes : List ℕ × Show → List ℕ × Show → Bool
-clashes r e = overlap r.0 e.0 || mixes r e
-
 -- a rule may follow earlier ones
 abbrev pub fits : List (List ℕ × Show) → List ℕ × Show → Bool
-fits earlier r = not (is_below_id r.0) && (not (is_id r.0 && is_slice r.1) && not (list_any (clashes r) earlier))
+fits earlier r = not (is_below_id r.0) && (not (is_id r.0 && is_slice r.1) && (not (list_any (λ e. overlap r.0 e.0) earlier) && not (list_any (mixes r) earlier)))
 
 -- ---- reading
 

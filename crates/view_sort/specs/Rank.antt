@@ -1,5 +1,6 @@
 -- Keys of both directions as one order. Only the crate's private clauses cite it.
-use Rattle.std.specs.Prelude.{ℕ, Bool, true, false, List, map}
+use Rattle.std.specs.Prelude.{◌≡◌, ℕ, Bool, true, false, List, map, take}
+use Rattle.std.specs.List.Sorted.{IsPermutation, IsSorted}
 use Rattle.std.specs.declared.cmp.Ordering.{Ordering}
 use Rattle.std.specs.Cmp.Lexicographic.{slice_cmp}
 use Rattle.std.specs.Ordering.{on, then_cmp, flip_args}
@@ -41,3 +42,23 @@ sided_total = then_total (on_total (λ p. p.0) key_total) (back_total (on_total 
 
 pub ranked_total : IsTotalOrder ranked_cmp
 ranked_total = then_total (on_total (λ r. r.0) (lists_total sided_total)) (on_total (λ r. id_of r.1.doc) id_total)
+
+-- ys is the first `keep` of xs, sorted
+pub record IsLeast {X : Type 0} (cmp : X → X → Ordering) (keep : ℕ) (xs ys : List X) : Type 0 where
+  pub sorted : List X
+  pub same : IsPermutation xs sorted
+  pub ascending : IsSorted cmp sorted
+  pub first : ys ≡ take keep sorted
+
+-- ys is what was found, of the ranks xs sorted
+pub record IsSortedFound (xs : List (List (SortKey × SortKey) × Version)) (ys : List Version) : Type 0 where
+  pub sorted : List (List (SortKey × SortKey) × Version)
+  pub same : IsPermutation xs sorted
+  pub ascending : IsSorted ranked_cmp sorted
+  pub found : ys ≡ map (λ r. r.1) sorted
+
+-- ys is what was found, of the first `keep` of the ranks xs sorted
+pub record IsLeastFound (keep : ℕ) (xs : List (List (SortKey × SortKey) × Version)) (ys : List Version) : Type 0 where
+  pub ranks : List (List (SortKey × SortKey) × Version)
+  pub least : IsLeast ranked_cmp keep xs ranks
+  pub found : ys ≡ map (λ r. r.1) ranks

@@ -4,14 +4,9 @@ use Rattle.std.specs.List.{list_any}
 use Rattle.std.specs.Str.{bytes_eq}
 use Rattle.json_tree.specs.Tree.{Tree, null, boolean, number, text, date, list, object, Members, no_members, member, elements_of, list_of_elements}
 use Rattle.doc_paths.specs.Text.{parts}
-use Rattle.view_sort.specs.Projection.{is_id, id_name}
+use Rattle.view_sort.specs.Projection.{is_id, id_name, is_on, says_on}
 use Rattle.view_sort.specs.declared.show.Show.{Show}
 use Rattle.view_sort.specs.declared.show.Show.TheVariants as v
-
-abbrev pub is_on : Show → Bool
-is_on v.On = true
-is_on v.Off = false
-is_on (v.Slice s n) = false
 
 abbrev pub only_id : List (List ℕ × Show) → Bool
 only_id (r ∷ []) = is_id r.0 && is_on r.1
@@ -19,7 +14,7 @@ only_id rs = false
 
 -- some path other than `_id` has 1, or `_id` has 1 and is the only path: the rest isn't shown
 abbrev pub includes : List (List ℕ × Show) → Bool
-includes rules = list_any (λ r. not (is_id r.0) && is_on r.1) rules || only_id rules
+includes rules = says_on rules || only_id rules
 
 -- ---- the rules at a value: the parts that are left, and what is said of the path
 

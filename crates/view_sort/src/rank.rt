@@ -4,9 +4,12 @@ ghost use Rattle.std.proofs.Common.{rules};
 ghost use Rattle.std.specs.Cmp.{partial_order_from_total, partial_equiv_from_equiv, eq_by_cmp_equiv};
 ghost use Rattle.std.specs.Cmp.Rules.{comparing};
 ghost use Rattle.std.specs.Ordering.{as_partial_cmp, eq_by_cmp};
+ghost use Rattle.view_sort.specs.declared.fault.ViewFault.TheVariants.{NoMemory};
 ghost use Rattle.view_sort.specs.Rank.{sided_key, sided_cmp, ranked_cmp, sided_total, ranked_total};
 
+use crate::fault::ViewFault;
 use shred_cols::{Row, SortKey};
+use std::alloc::Global;
 use std::cmp::Ordering;
 use std::marker::Model;
 
@@ -69,6 +72,13 @@ impl Ranked {
         ensures { result ≡ (keys.items, found) }
     {
         Ranked { keys, found }
+    }
+
+    pub(crate) fn copy_found(&self, alloc: Global) -> Result<Row, ViewFault>
+        ensures ok { IfOk result (λ row. row ≡ self.now.1) }
+        ensures err { IfErr result (λ e. e ≡ NoMemory) }
+    {
+        Ok(self.found.try_copy(alloc)?)
     }
 
     pub(crate) fn into_found(self) -> Row

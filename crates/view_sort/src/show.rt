@@ -3,8 +3,7 @@ ghost use Rattle.std.specs.Prelude.{◌≡◌};
 ghost use Rattle.json_tree.specs.Tree.{number};
 ghost use Rattle.json_tree.specs.View.{tree};
 ghost use Rattle.json_tree.specs.Dates.{whole_i64};
-ghost use Rattle.view_sort.specs.Projection.{whole_in, of_count, window, window_in, slice_of, slice_in, show_of, is_slice, is_opposite};
-ghost use Rattle.view_sort.specs.View.{is_on};
+ghost use Rattle.view_sort.specs.Projection.{whole_in, of_count, window, window_in, slice_of, slice_in, show_of, is_slice, is_on, is_off};
 
 use json_tree::{Items, Members, Value};
 
@@ -27,21 +26,20 @@ impl Show {
         }
     }
 
+    pub(crate) fn is_off(&self) -> bool
+        ensures { result ≡ is_off self.now }
+    {
+        match self {
+            Show::Off => true,
+            _ => false,
+        }
+    }
+
     pub(crate) fn is_slice(&self) -> bool
         ensures { result ≡ is_slice self.now }
     {
         match self {
             Show::Slice(..) => true,
-            _ => false,
-        }
-    }
-
-    pub(crate) fn is_opposite(&self, other: &Show) -> bool
-        ensures { result ≡ is_opposite self.now other.now }
-    {
-        match (self, other) {
-            (Show::On, Show::Off) => true,
-            (Show::Off, Show::On) => true,
             _ => false,
         }
     }

@@ -1,9 +1,9 @@
-ghost use Rattle.std.specs.Prelude.{◌≡◌, ◌↔◌, ◌⊎◌, [], ◌&&◌, if◌then◌else◌, None, Some, take, map, IfOk, IfErr, IsTrue};
+ghost use Rattle.std.specs.Prelude.{◌≡◌, ◌↔◌, ◌⊎◌, ◌<◌, ◌≤◌, [], ◌&&◌, if◌then◌else◌, None, Some, length, map, IfOk, IfErr, IsTrue};
 ghost use Rattle.json_tree.specs.View.{tree};
 ghost use Rattle.doc_paths.specs.Text.{IsPath};
 ghost use Rattle.view_sort.specs.Answers.{Answers};
 ghost use Rattle.view_sort.specs.Sort.{is_path, is_direction, ascends, sort_fault, bad_key, sort_in, key_of_member, key_at, IsFirstOf};
-ghost use Rattle.view_sort.specs.Rank.{sided_key, all_keys, rank_of};
+ghost use Rattle.view_sort.specs.Rank.{sided_key, all_keys, rank_of, IsSortedFound, IsLeastFound};
 ghost use Rattle.view_sort.specs.declared.fault.ViewFault.TheVariants.{NoMemory, BadSort};
 
 use crate::fault::ViewFault;
@@ -136,9 +136,8 @@ impl Sort {
         ensures ok { IfOk result (λ first. IsFirstOf self.now keep found.items first.items) }
         ensures err { IfErr result (λ e. e ≡ NoMemory) }
     {
-        let mut ranked = rank_all(alloc, &self.keys, found)?;
-        ranked.sort_unstable();
-        first_of(alloc, ranked, keep)
+        let ranked = rank_all(alloc, &self.keys, found)?;
+        first_found(alloc, ranked, keep)
     }
 }
 
@@ -189,15 +188,63 @@ fn rank_all(
     Ok(ranked)
 }
 
-fn first_of(alloc: Global, ranked: Vec<Ranked>, keep: usize) -> Result<Vec<Found>, ViewFault>
-    ensures ok { IfOk result (λ v. v.items ≡ map (λ r. r.1) (take keep ranked.items)) }
+/// The first so many of what was found, in order; what comes after them is left unsorted.
+fn first_found(alloc: Global, ranked: Vec<Ranked>, keep: usize) -> Result<Vec<Found>, ViewFault>
+    ensures ok { IfOk result (λ v. IsLeastFound keep ranked.items v.items) }
     ensures err { IfErr result (λ e. e ≡ NoMemory) }
 {
-    let mut ranked = ranked;
-    ranked.truncate(keep);
-    let mut first = Vec::with_capacity(alloc, ranked.len())?;
-    for one in ranked {
-        first.push(one.into_found())?;
+    if keep < ranked.len() {
+        least_found(alloc, ranked, keep)
+    } else {
+        all_found(alloc, ranked, keep)
     }
-    Ok(first)
+}
+
+fn least_found(alloc: Global, mut ranked: Vec<Ranked>, keep: usize) -> Result<Vec<Found>, ViewFault>
+    requires { keep < length ranked.items }
+    ensures ok { IfOk result (λ v. IsLeastFound keep ranked.items v.items) }
+    ensures err { IfErr result (λ e. e ≡ NoMemory) }
+{
+    let (front, _, _) = ranked.select_nth_unstable(keep);
+    sorted_copies(alloc, front)
+}
+
+fn all_found(alloc: Global, mut ranked: Vec<Ranked>, keep: usize) -> Result<Vec<Found>, ViewFault>
+    requires { length ranked.items ≤ keep }
+    ensures ok { IfOk result (λ v. IsLeastFound keep ranked.items v.items) }
+    ensures err { IfErr result (λ e. e ≡ NoMemory) }
+{
+    ranked.sort_unstable();
+    found_of(alloc, ranked)
+}
+
+/// Copies that share the documents and their columns, in order.
+fn sorted_copies(alloc: Global, ranked: &mut [Ranked]) -> Result<Vec<Found>, ViewFault>
+    ensures ok { IfOk result (λ v. IsSortedFound ranked.old v.items) }
+    ensures err { IfErr result (λ e. e ≡ NoMemory) }
+{
+    ranked.sort_unstable();
+    copies_of(alloc, ranked)
+}
+
+fn copies_of(alloc: Global, ranked: &[Ranked]) -> Result<Vec<Found>, ViewFault>
+    ensures ok { IfOk result (λ v. v.items ≡ map (λ r. r.1) ranked.now) }
+    ensures err { IfErr result (λ e. e ≡ NoMemory) }
+{
+    let mut found = Vec::with_capacity(alloc, ranked.len())?;
+    for one in ranked {
+        found.push(one.copy_found(alloc)?)?;
+    }
+    Ok(found)
+}
+
+fn found_of(alloc: Global, ranked: Vec<Ranked>) -> Result<Vec<Found>, ViewFault>
+    ensures ok { IfOk result (λ v. v.items ≡ map (λ r. r.1) ranked.items) }
+    ensures err { IfErr result (λ e. e ≡ NoMemory) }
+{
+    let mut found = Vec::with_capacity(alloc, ranked.len())?;
+    for one in ranked {
+        found.push(one.into_found())?;
+    }
+    Ok(found)
 }

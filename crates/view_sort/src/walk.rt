@@ -3,9 +3,9 @@ ghost use Rattle.std.specs.Prelude.{◌≡◌, [], ◌∷◌, ◌&&◌, not, opt
 ghost use Rattle.std.specs.List.{list_any};
 ghost use Rattle.json_tree.specs.View.{tree};
 ghost use Rattle.doc_paths.specs.Text.{parts};
-ghost use Rattle.view_sort.specs.Projection.{is_id, id_name};
+ghost use Rattle.view_sort.specs.Projection.{is_id, id_name, is_on};
 ghost use Rattle.view_sort.specs.declared.show.Show.TheVariants.{On};
-ghost use Rattle.view_sort.specs.View.{is_on, only_id, includes, rests, whole_rests, step, under, said, slice_start, sliced, whole_if, chosen, inside, view};
+ghost use Rattle.view_sort.specs.View.{only_id, includes, rests, whole_rests, step, under, said, slice_start, sliced, whole_if, chosen, inside, view};
 ghost use Rattle.view_sort.specs.Walk.{is_nil, shown_pairs, with_put, seen};
 ghost use Rattle.view_sort.specs.declared.fault.ViewFault.TheVariants.{NoMemory};
 
