@@ -1,5 +1,7 @@
 // New documents of updates that insert: what a filter asks for, changed by the update.
-ghost use Rattle.std.specs.Prelude.{◌≡◌, ◌∷◌, [], map, option_map, unwrap_or, codes, IfOk, IfErr};
+ghost use Rattle.std.specs.Prelude.{◌≡◌, ◌∷◌, [], map, option_map, unwrap_or, codes, true, IfOk, IfErr, IfSome, OnOk};
+ghost use Rattle.json_tree.specs.Id.{IsId};
+ghost use Rattle.update_ops.specs.Safe.{are_safe};
 ghost use Rattle.json_tree.specs.Tree.{Tree, object, no_members, member};
 ghost use Rattle.json_tree.specs.Doc.{IsDocument};
 ghost use Rattle.json_tree.specs.View.{tree};
@@ -43,7 +45,8 @@ fn id_operand<'a>(equalities: &[Equality<'a>]) -> Option<&'a Value>
 
 /// The id that a filter gives: the first operand on `_id`, where it is one.
 fn filter_id<'a>(equalities: &[Equality<'a>]) -> Option<&'a Value>
-    ensures { option_map (λ v. tree v.now) result ≡ filter_id (map equality_of equalities.now) }
+    ensures value { option_map (λ v. tree v.now) result ≡ filter_id (map equality_of equalities.now) }
+    ensures id { IfSome result (λ v. IsId (tree v.now)) }
 {
     match id_operand(equalities) {
         Some(operand) if operand.id_fault().is_none() => Some(operand),
@@ -53,13 +56,15 @@ fn filter_id<'a>(equalities: &[Equality<'a>]) -> Option<&'a Value>
 
 /// Puts the operand of an equality at its path. Those on `_id` and below it are passed over.
 fn put_equality(alloc: Global, equality: Equality<'_>, value: &mut Value) -> Result<(), UpdateFault>
-    ensures { Gives (λ _. tree value.new) result (put_equality (equality_of equality) (tree value.old)) }
+    ensures put { Gives (λ _. tree value.new) result (put_equality (equality_of equality) (tree value.old)) }
+    ensures document { OnOk result (IsDocument (tree value.old) → IsDocument (tree value.new)) }
 {
+    let path = equality.path.text();
     if is_of_id(equality.path) {
         return Ok(());
     }
     if !is_storable(equality.operand) {
-        return Err(wrong_target(alloc, equality.path.text()));
+        return Err(wrong_target(alloc, path));
     }
     match copy(alloc, equality.operand) {
         Ok(operand) => put_into(alloc, equality.path, value, operand),
@@ -73,7 +78,8 @@ fn put_equalities(
     equalities: &[Equality<'_>],
     value: &mut Value,
 ) -> Result<(), UpdateFault>
-    ensures { Gives (λ _. tree value.new) result (put_equalities (map equality_of equalities.now) (tree value.old)) }
+    ensures put { Gives (λ _. tree value.new) result (put_equalities (map equality_of equalities.now) (tree value.old)) }
+    ensures document { OnOk result (IsDocument (tree value.old) → IsDocument (tree value.new)) }
 {
     for equality in equalities {
         match put_equality(alloc, *equality, value) {
@@ -92,7 +98,10 @@ fn inserted(
     moment: i64,
     id: &Value,
 ) -> Result<Value, UpdateFault>
-    ensures { Gives tree result (onward (put_equalities (map equality_of equalities.now) (object (member (codes "_id") (tree id.now) no_members))) (λ d. apply (map clause_of clauses.now) d moment true)) }
+    requires id { IsId (tree id.now) }
+    requires safe { are_safe (map clause_of clauses.now) ≡ true }
+    ensures document { IfOk result (λ v. IsDocument (tree v)) }
+    ensures made { Gives tree result (onward (put_equalities (map equality_of equalities.now) (object (member (codes "_id") (tree id.now) no_members))) (λ d. apply (map clause_of clauses.now) d moment true)) }
 {
     let mut value = match in_front(alloc, id, &Members::new(alloc)) {
         Ok(value) => value,
