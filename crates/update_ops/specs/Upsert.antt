@@ -49,11 +49,14 @@ if_id (Some x) = if_right (id_fault x) x
 abbrev pub filter_id : List (List ℕ × Tree) → Option Tree
 filter_id equalities = if_id (id_operand equalities)
 
--- the other operands put, those on `_id` and below it aside
+-- an operand put at its path, one on `_id` or below it aside
+abbrev pub put_equality : List ℕ × Tree → Tree → Result Tree UpdateFault
+put_equality p d = if of_id p.0 then Ok d else if is_storable p.1 then put_at p.0 p.1 d else Err (WrongTarget p.0)
+
+-- the other operands put, in order
 abbrev pub put_equalities : List (List ℕ × Tree) → Tree → Result Tree UpdateFault
 put_equalities [] d = Ok d
-put_equalities (p ∷ ps) d =
-    if of_id p.0 then put_equalities ps d else onward (if is_storable p.1 then put_at p.0 p.1 d else Err (WrongTarget p.0)) (put_equalities ps)
+put_equalities (p ∷ ps) d = onward (put_equality p d) (put_equalities ps)
 
 -- the new document of an update that inserts
 abbrev pub upsert : List (List ℕ × Tree) → List Clause → ℤ → Tree → Result Tree UpdateFault

@@ -18,18 +18,22 @@ mod applying;
 mod compare;
 mod draft;
 mod fresh;
+mod inserting;
 mod lists;
 mod making;
+mod replacing;
 
 // laws and worked rows
 mod laws;
 mod rows;
 
 pub use fault::UpdateFault;
+pub use inserting::Equality;
 pub use laws::{
     increments_are_undone, sets_are_seen, steady_updates_settle, twice_is_once, unsets_are_seen,
 };
 pub use operator::Operator;
+pub use replacing::replaced;
 pub use rows::{documents_are_made, operators_work, paths_conflict};
 pub use update::{Applied, Clause, Effect, Updates};
 
