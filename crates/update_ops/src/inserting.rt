@@ -1,14 +1,14 @@
-// New documents of updates that insert: what a filter asks for, changed by the update.
-ghost use Rattle.std.specs.Prelude.{◌≡◌, ◌∷◌, [], map, option_map, unwrap_or, codes, true, IfOk, IfErr, IfSome, OnOk};
+// New documents of updates and replacements that insert: what a filter asks for, changed by the update, or
+// the replacement under an id.
+ghost use Rattle.std.specs.Prelude.{◌≡◌, ◌∷◌, [], None, map, option_map, unwrap_or, codes, true, false, IfOk, IfErr, IfSome, OnOk};
 ghost use Rattle.json_tree.specs.Id.{IsId};
 ghost use Rattle.update_ops.specs.Safe.{are_safe};
-ghost use Rattle.json_tree.specs.Tree.{Tree, object, no_members, member};
-ghost use Rattle.json_tree.specs.Doc.{IsDocument};
+ghost use Rattle.json_tree.specs.Tree.{Tree, object, no_members, member, members_of};
+ghost use Rattle.json_tree.specs.Doc.{IsDocument, has_dollar_name, id_in, id_fault_in};
 ghost use Rattle.json_tree.specs.View.{tree};
-ghost use Rattle.update_ops.specs.Faults.{of_id};
 ghost use Rattle.update_ops.specs.View.{clause_of, equality_of};
 ghost use Rattle.update_ops.specs.Apply.{Gives, apply, onward};
-ghost use Rattle.update_ops.specs.Upsert.{id_operand, if_id, filter_id, put_equality, put_equalities, upsert};
+ghost use Rattle.update_ops.specs.Upsert.{id_operand, filter_id, put_equality, put_equalities, own_id, under_given, upsert, IsReplacement, upsert_replacement};
 ghost use Rattle.update_ops.specs.declared.fault.UpdateFault.TheVariants.{NoMemory};
 
 use crate::applying::changed_by;
@@ -18,7 +18,7 @@ use crate::fault::UpdateFault;
 use crate::making::wrong_target;
 use crate::operand::is_storable;
 use crate::overlaps::is_of_id;
-use crate::replacing::{in_front, within};
+use crate::replacing::{in_front, under_id, under_own_id, within};
 use crate::update::{Clause, Updates};
 use doc_paths::Path;
 use json_tree::{Doc, DocId, Members, Value};
@@ -54,9 +54,21 @@ fn filter_id<'a>(equalities: &[Equality<'a>]) -> Option<&'a Value>
     }
 }
 
+/// The id that a filter gives, or else the generated one.
+fn chosen<'a>(given: Option<&'a Value>, generated: &'a DocId) -> &'a Value
+    requires { IfSome given (λ v. IsId (tree v.now)) }
+    ensures id { IsId (tree result.now) }
+    ensures value { tree result.now ≡ unwrap_or (option_map (λ v. tree v.now) given.entry) generated.now }
+{
+    match given {
+        Some(id) => id,
+        None => generated.value(),
+    }
+}
+
 /// Puts the operand of an equality at its path. Those on `_id` and below it are passed over.
 fn put_equality(alloc: Global, equality: Equality<'_>, value: &mut Value) -> Result<(), UpdateFault>
-    ensures put { Gives (λ _. tree value.new) result (put_equality (equality_of equality) (tree value.old)) }
+    ensures put { Gives (λ _. tree value.new) result (put_equality (equality_of equality.entry) (tree value.old)) }
     ensures document { OnOk result (IsDocument (tree value.old) → IsDocument (tree value.new)) }
 {
     let path = equality.path.text();
@@ -131,10 +143,63 @@ impl Updates {
     ) -> Result<Doc, UpdateFault>
         ensures { Gives (λ (d : Tree). d) result (upsert (map equality_of equalities.now) self.now moment generated.now) }
     {
-        let id = filter_id(equalities).unwrap_or(generated.value());
+        let id = chosen(filter_id(equalities), generated);
         match inserted(alloc, equalities, &self.clauses, moment, id) {
             Ok(value) => within(alloc, value),
             Err(fault) => Err(fault),
         }
+    }
+}
+
+/// The document of an object that has this id of its own, where the filter gives no other.
+fn under_given(
+    alloc: Global,
+    members: &Members,
+    own: &Value,
+    given: Option<&Value>,
+) -> Result<Doc, UpdateFault>
+    requires { IsDocument (object (members_of members.now)) }
+    ensures { Gives (λ (d : Tree). d) result (under_given (tree own.now) (object (members_of members.now)) (option_map (λ v. tree v.now) given.entry)) }
+{
+    match given {
+        Some(given) if !own.same(given) => Err(UpdateFault::TouchesId),
+        _ => under_own_id(alloc, members),
+    }
+}
+
+/// The document of an object under its own id, or else the one that the filter gives, or else the
+/// generated one.
+fn inserted_under(
+    alloc: Global,
+    members: &Members,
+    given: Option<&Value>,
+    generated: &DocId,
+) -> Result<Doc, UpdateFault>
+    requires names { has_dollar_name (object (members_of members.now)) ≡ false }
+    requires own { id_fault_in (object (members_of members.now)) ≡ None }
+    requires given { IfSome given (λ v. IsId (tree v.now)) }
+    ensures { Gives (λ (d : Tree). d) result (own_id (id_in (object (members_of members.now))) (option_map (λ v. tree v.now) given.entry) generated.now (object (members_of members.now))) }
+{
+    match members.get("_id") {
+        Some(own) => under_given(alloc, members, own, given),
+        None => under_id(alloc, chosen(given, generated), members),
+    }
+}
+
+/// The new document of a replacement that inserts; `is_replacement` tests the condition. Without an id it
+/// gets the one that the filter gives in front, or else the generated one; where it has an id and the filter
+/// gives another, it is refused as `TouchesId`. The limits are tested last.
+pub fn upsert_replacement(
+    alloc: Global,
+    equalities: &[Equality<'_>],
+    replacement: &Value,
+    generated: &DocId,
+) -> Result<Doc, UpdateFault>
+    requires { IsReplacement (tree replacement.now) }
+    ensures { Gives (λ (d : Tree). d) result (upsert_replacement (map equality_of equalities.now) (tree replacement.now) generated.now) }
+{
+    match replacement {
+        Value::Object(members) => inserted_under(alloc, members, filter_id(equalities), generated),
+        _ => unreachable!(),
     }
 }

@@ -1,18 +1,19 @@
 // Replacements of documents.
-ghost use Rattle.std.specs.Prelude.{◌≡◌, true, false, codes, None, IfOk, IfErr, OnOk};
+ghost use Rattle.std.specs.Prelude.{◌≡◌, ◌↔◌, true, false, codes, None, IfOk, IfErr, OnOk, IsTrue};
 ghost use Rattle.json_tree.specs.Tree.{Tree, object, members_of};
 ghost use Rattle.json_tree.specs.Members.{member_at, put_member};
-ghost use Rattle.json_tree.specs.Doc.{IsDocument, has_dollar_name};
+ghost use Rattle.json_tree.specs.Doc.{IsDocument, has_dollar_name, id_fault_in};
+ghost use Rattle.json_tree.specs.Id.{IsId};
 ghost use Rattle.json_tree.specs.View.{tree};
 ghost use Rattle.update_ops.specs.Faults.{is_object};
 ghost use Rattle.update_ops.specs.Apply.{Gives, within_limits};
-ghost use Rattle.update_ops.specs.Upsert.{with_id, under_id, replaced};
+ghost use Rattle.update_ops.specs.Upsert.{with_id, replaced, IsReplacement};
 ghost use Rattle.update_ops.specs.declared.fault.UpdateFault.TheVariants.{NoMemory};
 
 use crate::applying::within_limits;
 use crate::copies::copy;
 use crate::fault::UpdateFault;
-use json_tree::{Doc, DocId, Members, ObjectBuilder, Text, Value};
+use json_tree::{Doc, Members, ObjectBuilder, Text, Value};
 use std::alloc::Global;
 
 /// Adds a copy of a pair.
@@ -65,6 +66,7 @@ pub(crate) fn document(alloc: Global, value: Value) -> Result<Doc, UpdateFault>
     }
 }
 
+/// The document that a value is.
 pub(crate) fn within(alloc: Global, value: Value) -> Result<Doc, UpdateFault>
     requires { IsDocument (tree value) }
     ensures ok { IfOk result (λ d. d ≡ tree value) }
@@ -76,13 +78,14 @@ pub(crate) fn within(alloc: Global, value: Value) -> Result<Doc, UpdateFault>
     }
 }
 
-/// The document of an object without an id.
-fn under_id(alloc: Global, id: &DocId, members: &Members) -> Result<Doc, UpdateFault>
+/// The document of an object without an id, under this one.
+pub(crate) fn under_id(alloc: Global, id: &Value, members: &Members) -> Result<Doc, UpdateFault>
+    requires id { IsId (tree id.now) }
     requires absent { member_at (codes "_id") members.now ≡ None }
     requires names { has_dollar_name (object (members_of members.now)) ≡ false }
-    ensures { Gives (λ (d : Tree). d) result (within_limits (with_id id.now (object (members_of members.now)))) }
+    ensures { Gives (λ (d : Tree). d) result (within_limits (with_id (tree id.now) (object (members_of members.now)))) }
 {
-    let value = match in_front(alloc, id.value(), members) {
+    let value = match in_front(alloc, id, members) {
         Ok(value) => value,
         Err(fault) => return Err(fault),
     };
@@ -90,7 +93,7 @@ fn under_id(alloc: Global, id: &DocId, members: &Members) -> Result<Doc, UpdateF
 }
 
 /// The document of an object that has the id.
-fn under_own_id(alloc: Global, members: &Members) -> Result<Doc, UpdateFault>
+pub(crate) fn under_own_id(alloc: Global, members: &Members) -> Result<Doc, UpdateFault>
     requires { IsDocument (object (members_of members.now)) }
     ensures { Gives (λ (d : Tree). d) result (within_limits (object (members_of members.now))) }
 {
@@ -100,6 +103,33 @@ fn under_own_id(alloc: Global, members: &Members) -> Result<Doc, UpdateFault>
     }
 }
 
+fn is_id(value: &Value) -> bool
+    ensures { IsTrue result ↔ IsId (tree value.now) }
+{
+    value.id_fault().is_none()
+}
+
+/// Whether the member `_id`, if there is one, is an id.
+fn has_no_wrong_id(members: &Members) -> bool
+    ensures { IsTrue result ↔ (id_fault_in (object (members_of members.now)) ≡ None) }
+{
+    match members.get("_id") {
+        Some(id) => is_id(id),
+        None => true,
+    }
+}
+
+/// Whether a value is an object in which no name begins with `$`, and whose `_id`, if it has one, is an id.
+pub fn is_replacement(value: &Value) -> bool
+    ensures { IsTrue result ↔ IsReplacement (tree value.now) }
+{
+    match value {
+        Value::Object(members) => !value.has_dollar_name() && has_no_wrong_id(members),
+        _ => false,
+    }
+}
+
+/// The document that an object makes of a document.
 fn replaced_by(alloc: Global, members: &Members, doc: &Doc) -> Result<Doc, UpdateFault>
     requires { has_dollar_name (object (members_of members.now)) ≡ false }
     ensures { Gives (λ (d : Tree). d) result (replaced (object (members_of members.now)) doc.now) }
@@ -111,7 +141,7 @@ fn replaced_by(alloc: Global, members: &Members, doc: &Doc) -> Result<Doc, Updat
             }
             Err(UpdateFault::TouchesId)
         }
-        None => under_id(alloc, doc.id(), members),
+        None => under_id(alloc, doc.id().value(), members),
     }
 }
 
