@@ -24,7 +24,7 @@ use Rattle.update_ops.specs.declared.fault.UpdateFault.{UpdateFault}
 use Rattle.update_ops.specs.declared.fault.UpdateFault.TheVariants.{WrongTarget}
 use Rattle.update_ops.proofs.Keeping.{Free, AllFree, of_list, append_free, take_free, drop_free, put_keeps, put_id, at_free, without_free, without_id}
 
-not_true : (b : Bool) → not b ≡ true → b ≡ false
+pub not_true : (b : Bool) → not b ≡ true → b ≡ false
 not_true true e = Prim.cc e
 not_true false e = refl
 
@@ -51,7 +51,7 @@ put_parts (p ∷ ps) x d r safe k h e =
     let s = and_parts (not (bytes_eq p (codes "_id"))) (not (list_any is_dollar (p ∷ ps))) safe in
     record { id = put_id 0 d p ps x r (not_true _ s.0) e; free = put_keeps 0 d (p ∷ ps) x r h (not_true _ s.1) k e }
 
-put_kept : (path : List ℕ) (x d r : Tree) → is_aside (parts path) ≡ true → Free x → Free d → put_at path x d ≡ Ok r → Kept d r
+pub put_kept : (path : List ℕ) (x d r : Tree) → is_aside (parts path) ≡ true → Free x → Free d → put_at path x d ≡ Ok r → Kept d r
 put_kept path x d r safe k h e = put_parts (parts path) x d r safe k h (put_or_is path (put 0 d (parts path) x) r e)
 
 without_kept : (ps : List (List ℕ)) (d : Tree) → is_aside ps ≡ true → Free d → Kept d (without d ps)

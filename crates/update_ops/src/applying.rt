@@ -120,7 +120,7 @@ fn apply_all(
     Ok(changed)
 }
 
-fn within_limits(value: &Value) -> Result<(), UpdateFault>
+pub(crate) fn within_limits(value: &Value) -> Result<(), UpdateFault>
     ensures { Gives (λ _. tree value.now) result (within_limits (tree value.now)) }
 {
     match check(value) {
@@ -130,7 +130,7 @@ fn within_limits(value: &Value) -> Result<(), UpdateFault>
 }
 
 /// What the clauses make of a value, where it isn't that value any more.
-fn changed_by(
+pub(crate) fn changed_by(
     alloc: Global,
     clauses: &[Clause],
     moment: i64,

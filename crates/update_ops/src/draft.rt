@@ -46,7 +46,12 @@ fn is_there(path: &Path, value: &Value, new: &Value) -> bool
     }
 }
 
-fn put_into(alloc: Global, path: &Path, value: &mut Value, new: Value) -> Result<(), UpdateFault>
+pub(crate) fn put_into(
+    alloc: Global,
+    path: &Path,
+    value: &mut Value,
+    new: Value,
+) -> Result<(), UpdateFault>
     ensures { Gives (λ _. tree value.new) result (put_at path.now (tree new) (tree value.old)) }
 {
     match path.put_at(alloc, value, new) {

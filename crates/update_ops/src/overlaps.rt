@@ -135,7 +135,7 @@ fn check_overlaps(alloc: Global, paths: &[Path]) -> Result<(), UpdateFault>
     Ok(())
 }
 
-fn is_of_id(path: &Path) -> bool
+pub(crate) fn is_of_id(path: &Path) -> bool
     ensures { result ≡ of_id path.now }
 {
     first_part(path.text()).0 == "_id"

@@ -392,3 +392,76 @@ pub(crate) const NEW: &str = r#"{"_id":"s","a":1}
 {"$setOnInsert":{"a":2,"b.c":[1]}} => {"_id":"s","a":2,"b":{"c":[1]}}
 {"$setOnInsert":{"w":2},"$min":{"m":7},"$currentDate":{"v":true}} => {"_id":"s","a":1,"m":7,"w":2,"v":{"$date":1700000000001}}
 {"$setOnInsert":{}} => same"#;
+
+// Replacements of the document in the first line.
+pub(crate) const REPLACED: [&str; 2] = [OF_TEXT_ID, OF_NUMBER_ID];
+
+const OF_TEXT_ID: &str = r#"{"_id":"o","a":1,"b":{"c":[2]}}
+{"z":1} => {"_id":"o","z":1}
+{} => {"_id":"o"}
+{"_id":"o"} => {"_id":"o"}
+{"z":1,"_id":"o"} => {"z":1,"_id":"o"}
+{"_id":"o","a":1,"b":{"c":[2]}} => {"_id":"o","a":1,"b":{"c":[2]}}
+{"a":{"_id":"p"}} => {"_id":"o","a":{"_id":"p"}}
+{"w":[{"_id":1},null],"v":[]} => {"_id":"o","w":[{"_id":1},null],"v":[]}
+{"_id":"p"} => id
+{"z":1,"_id":"p"} => id
+{"_id":null,"a":1} => id
+{"_id":7} => id
+{~0 999 "m#":0~} => {"_id":"o",~0 999 "m#":0~}
+{~0 1000 "m#":0~} => broken 6 1000 1001
+{"_id":"o",~0 1000 "m#":0~} => broken 6 1000 1001
+{"_id":"p",~0 1000 "m#":0~} => id
+{"v":[~0 1001 #~]} => broken 8 1000 1001
+{"t":"~1000 2000 abc#~x"} => {"_id":"o","t":"~1000 2000 abc#~x"}
+{"t":"~1000 2000 abc#~xx"} => broken 9 8000 8001"#;
+
+const OF_NUMBER_ID: &str = r#"{"_id":1.5,"a":1}
+{"_id":1.50,"b":2} => {"_id":1.5,"b":2}
+{"b":2} => {"_id":1.5,"b":2}
+{"_id":"1.5"} => id
+{"_id":15} => id"#;
+
+// What is inserted: paths with operands that a filter asks for, and an update or a replacement.
+pub(crate) const INSERTED: &str = r#" ; [] ; {"$set":{"v":1}} => {"_id":true,"v":1}
+_id k ; ["u",5] ; {"$setOnInsert":{"w":2},"$set":{"v":1}} => {"_id":"u","k":5,"v":1,"w":2}
+k _id ; [5,"u"] ; {"$set":{"v":1}} => {"_id":"u","k":5,"v":1}
+_id _id ; ["u","w"] ; {"$set":{}} => {"_id":"u"}
+_id _id ; [[1],"w"] ; {"$set":{"v":1}} => {"_id":true,"v":1}
+_id ; [""] ; {"$set":{"v":1}} => {"_id":true,"v":1}
+_id ; [{"$a":1}] ; {"$set":{"v":1}} => {"_id":true,"v":1}
+_id ; [null] ; {"$set":{"v":1}} => {"_id":null,"v":1}
+_id.x _id ; [1,7] ; {"$set":{"v":1}} => {"_id":7,"v":1}
+k k ; [1,2] ; {"$set":{"v":1}} => {"_id":true,"k":2,"v":1}
+k.x k ; [2,1] ; {"$set":{"v":1}} => {"_id":true,"k":1,"v":1}
+k.x k.y ; [2,[{}]] ; {"$unset":{"k.x":1}} => {"_id":true,"k":{"y":[{}]}}
+k k.2 ; [[],9] ; {"$push":{"k":8}} => {"_id":true,"k":[null,null,9,8]}
+k.0 ; [9] ; {"$rename":{"k":"l"}} => {"_id":true,"l":{"0":9}}
+k k.x ; [1,2] ; {"$set":{"v":1}} => target k.x
+k ; [{"$x":1}] ; {"$set":{"v":1}} => target k
+k.y k ; [1,{"a":[{"$b":2}]}] ; {"$set":{"v":1}} => target k
+k k.x l ; [1,2,{"$b":2}] ; {"$set":{"v":1}} => target k.x
+l k k.x ; [{"$b":2},1,2] ; {"$set":{"v":1}} => target l
+k k.x ; [1,{"$b":2}] ; {"$set":{"v":1}} => target k.x
+v ; [1] ; {"$inc":{"v":2}} => {"_id":true,"v":3}
+v ; ["x"] ; {"$inc":{"v":2}} => target v
+n ; [10000000000000000000] ; {"$inc":{"n":90000000000000000000}} => range n
+at ; [{"$date":5}] ; {"$currentDate":{"at":true}} => {"_id":true,"at":{"$date":1700000000001}}
+l ; [[~0 1001 #~]] ; {"$set":{"v":1}} => broken 8 1000 1001
+l ; [[~0 1001 #~]] ; {"$pop":{"l":1}} => {"_id":true,"l":[~0 1000 #~]}
+b.c.d.e.f.g.h.i.j.k.l.m.n.o.p.q ; [{}] ; {"$set":{"v":1}} => broken 2 16 17
+b.c.d.e.f.g.h.i.j.k.l.m.n.o.p.q ; [{}] ; {"$unset":{"b.c":1}} => {"_id":true,"b":{}}
+ ; [] ; {"z":1} => {"_id":true,"z":1}
+ ; [] ; {} => {"_id":true}
+ ; [] ; {"_id":null,"a":{"_id":[]}} => {"_id":null,"a":{"_id":[]}}
+_id ; ["u"] ; {"z":1} => {"_id":"u","z":1}
+_id ; ["u"] ; {"z":1,"_id":"u"} => {"z":1,"_id":"u"}
+_id ; ["u"] ; {"_id":"w"} => id
+_id _id ; ["u","w"] ; {"_id":"w"} => id
+_id ; [[1]] ; {"_id":"w"} => {"_id":"w"}
+_id _id ; [[1],"u"] ; {"_id":"w"} => {"_id":"w"}
+_id.x ; [1] ; {"_id":"w"} => {"_id":"w"}
+_id k ; ["u",5] ; {"z":1} => {"_id":"u","z":1}
+k ; [{"$x":1}] ; {"z":1} => {"_id":true,"z":1}
+_id ; ["u"] ; {~0 1000 "m#":0~} => broken 6 1000 1001
+_id ; ["u"] ; {"_id":"w",~0 1000 "m#":0~} => id"#;

@@ -7,7 +7,7 @@ use json_tree::Doc;
 use std::alloc::Global;
 use std::test::Fail;
 
-const MOMENT: i64 = 1_700_000_000_001;
+pub(crate) const MOMENT: i64 = 1_700_000_000_001;
 
 // ---- texts of faults and documents
 
@@ -26,7 +26,7 @@ fn shown_broken(alloc: Global, broken: &Broken) -> Result<String, Fail> {
     Ok(format!(in alloc; "broken {limit} {bound} {found}")?)
 }
 
-fn shown(alloc: Global, fault: &UpdateFault) -> Result<String, Fail> {
+pub(crate) fn shown(alloc: Global, fault: &UpdateFault) -> Result<String, Fail> {
     match fault {
         UpdateFault::UnknownOperator { name } => joined(alloc, &["unknown ", name.as_str()]),
         UpdateFault::BadOperand { operator, path } => {
@@ -43,7 +43,7 @@ fn shown(alloc: Global, fault: &UpdateFault) -> Result<String, Fail> {
     }
 }
 
-fn document(alloc: Global, text: &str) -> Result<Doc, Fail> {
+pub(crate) fn document(alloc: Global, text: &str) -> Result<Doc, Fail> {
     let value = read_value(alloc, text.as_bytes())?;
     if !value.has_id_member() {
         return Err(Fail::new("no id"));
@@ -54,7 +54,7 @@ fn document(alloc: Global, text: &str) -> Result<Doc, Fail> {
     Ok(Doc::of_value(alloc, value)?)
 }
 
-fn text_of(alloc: Global, doc: &Doc) -> Result<String, Fail> {
+pub(crate) fn text_of(alloc: Global, doc: &Doc) -> Result<String, Fail> {
     match String::from_utf8(canon(alloc, doc.value())?) {
         Ok(text) => Ok(text),
         Err(_) => Ok(String::new(alloc)),
@@ -92,7 +92,7 @@ fn add_many(alloc: Global, out: &mut String, spelt: &str) -> Result<(), Fail> {
 }
 
 // A text in which `~FROM TO PATTERN~` stands for many patterns.
-fn expanded(alloc: Global, text: &str) -> Result<String, Fail> {
+pub(crate) fn expanded(alloc: Global, text: &str) -> Result<String, Fail> {
     let mut out = String::new(alloc);
     let mut is_many = false;
     for piece in text.split('~') {
