@@ -2,12 +2,13 @@
 use Rattle.std.specs.Prelude.{ℕ, List, [], ◌∷◌, Option, Some, None, codes, if◌then◌else◌}
 use Rattle.std.specs.Str.{bytes_eq}
 use Rattle.cmd_grammar.specs.declared.name.Name.{Name}
-use Rattle.cmd_grammar.specs.declared.name.Name.TheVariants.{InsertOne, FindOne, CountDocuments}
+use Rattle.cmd_grammar.specs.declared.name.Name.TheVariants.{InsertOne, FindOne, CountDocuments, UpdateOne}
 
 abbrev pub command_text : Name → List ℕ
 command_text InsertOne = codes "insertOne"
 command_text FindOne = codes "findOne"
 command_text CountDocuments = codes "countDocuments"
+command_text UpdateOne = codes "updateOne"
 
 abbrev pub named_among : List Name → List ℕ → Option Name
 named_among [] text = None
@@ -15,4 +16,4 @@ named_among (name ∷ names) text = if bytes_eq (command_text name) text then So
 
 -- the command of this name
 abbrev pub command_named : List ℕ → Option Name
-command_named text = named_among (InsertOne ∷ FindOne ∷ CountDocuments ∷ []) text
+command_named text = named_among (InsertOne ∷ FindOne ∷ CountDocuments ∷ UpdateOne ∷ []) text

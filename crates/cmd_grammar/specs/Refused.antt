@@ -8,7 +8,10 @@ use Rattle.doc_paths.specs.Name.{is_collection_name}
 use Rattle.filter_tree.specs.Faults.{first_fault}
 use Rattle.filter_tree.specs.declared.fault.FilterFault.{FilterFault}
 use Rattle.filter_tree.specs.declared.fault.FilterFault.TheVariants as filter_faults
-use Rattle.reply_env.specs.Messages.{no_command, no_keyspace, bad_collection_name, bad_field, bad_filter, many_operands, no_filter_operator, out_of_memory}
+use Rattle.update_ops.specs.Faults as updates
+use Rattle.update_ops.specs.declared.fault.UpdateFault.{UpdateFault}
+use Rattle.update_ops.specs.declared.fault.UpdateFault.TheVariants as update_faults
+use Rattle.reply_env.specs.Messages.{no_command, no_keyspace, bad_collection_name, bad_field, bad_filter, many_operands, no_filter_operator, no_update_operator, bad_update_operand, update_conflict, id_unchangeable, wrong_update_target, number_out_of_range, broken_limit, out_of_memory}
 use Rattle.reply_env.specs.declared.reply.ErrorItem.{ErrorItem}
 use Rattle.reply_env.specs.declared.request.Place.{Place}
 use Rattle.cmd_grammar.specs.First.{first_of}
@@ -60,13 +63,28 @@ filter_error filter_faults.NoMemory = out_of_memory 0
 abbrev pub filter_refusal : Tree → Option ErrorItem
 filter_refusal t = option_map filter_error (option_and_then first_fault (member_in (codes "filter") t))
 
+-- what is wrong with an update, or with what it makes of a document
+abbrev pub update_error : UpdateFault → ErrorItem
+update_error (update_faults.UnknownOperator name) = no_update_operator name
+update_error (update_faults.BadOperand operator path) = bad_update_operand operator path
+update_error (update_faults.Overlap one other) = update_conflict one other
+update_error update_faults.TouchesId = id_unchangeable
+update_error (update_faults.WrongTarget path) = wrong_update_target path
+update_error (update_faults.NumberRange path) = number_out_of_range path
+update_error (update_faults.Broken b) = broken_limit b.limit b.bound b.found
+update_error update_faults.NoMemory = out_of_memory 0
+
+-- the update can't be read
+abbrev pub update_refusal : Tree → Option ErrorItem
+update_refusal t = option_map update_error (option_and_then updates.first_fault (member_in (codes "update") t))
+
 -- the document may not be stored
 abbrev pub inserted_refusal : Tree → Option ErrorItem
 inserted_refusal t = option_and_then document_refusal (member_in (codes "document") t)
 
 -- the tests of a command and its value, in their order
 abbrev pub command_refusal : Name × Tree → Option ErrorItem
-command_refusal command = first_of (fields_refusal command ∷ filter_refusal command.1 ∷ inserted_refusal command.1 ∷ [])
+command_refusal command = first_of (fields_refusal command ∷ filter_refusal command.1 ∷ update_refusal command.1 ∷ inserted_refusal command.1 ∷ [])
 
 -- the tests of a request, in their order
 abbrev pub refused : List ℕ → Place → Tree → Option ErrorItem

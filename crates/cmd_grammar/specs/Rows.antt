@@ -6,7 +6,7 @@ use Rattle.std.specs.Option.{option_map}
 use Rattle.json_tree.specs.Tree.{Tree}
 use Rattle.filter_tree.specs.Faults.{is_object}
 use Rattle.cmd_grammar.specs.declared.name.Name.{Name}
-use Rattle.cmd_grammar.specs.declared.name.Name.TheVariants.{InsertOne, FindOne, CountDocuments}
+use Rattle.cmd_grammar.specs.declared.name.Name.TheVariants.{InsertOne, FindOne, CountDocuments, UpdateOne}
 use Rattle.cmd_grammar.specs.declared.row.Kind.{Kind}
 use Rattle.cmd_grammar.specs.declared.row.Kind.TheVariants as kinds
 use Rattle.cmd_grammar.specs.declared.row.Field as declared_field
@@ -35,11 +35,15 @@ document = record { name = codes "document"; kind = kinds.Object; required = tru
 abbrev pub filter : Field
 filter = record { name = codes "filter"; kind = kinds.Object; required = false }
 
+abbrev pub update : Field
+update = record { name = codes "update"; kind = kinds.Object; required = true }
+
 -- one row for each command
 abbrev pub row : Name → Row
 row InsertOne = record { members = document ∷ []; options = None }
 row FindOne = record { members = filter ∷ []; options = None }
 row CountDocuments = record { members = filter ∷ []; options = None }
+row UpdateOne = record { members = filter ∷ update ∷ []; options = Some [] }
 
 abbrev pub has_kind : Kind → Tree → Bool
 has_kind kinds.Object t = is_object t

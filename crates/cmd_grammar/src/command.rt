@@ -1,6 +1,7 @@
 // Commands.
 use filter_tree::Filter;
 use json_tree::Value;
+use update_ops::Updates;
 
 /// What a request asks for.
 #[derive(Drop)]
@@ -11,4 +12,6 @@ pub enum Command {
     FindOne { filter: Filter },
     /// How many documents match.
     CountDocuments { filter: Filter },
+    /// To update the first document that matches.
+    UpdateOne { filter: Filter, updates: Updates },
 }

@@ -11,10 +11,12 @@ mod members;
 mod name;
 mod reading;
 mod row;
+mod updates;
 
 pub use command::Command;
 pub use fault::CommandFault;
 pub use reading::{read_command, read_request, take_command};
+pub use updates::update_error;
 
 #[cfg(test)]
 mod tests;

@@ -10,6 +10,7 @@ pub(crate) enum Name {
     InsertOne,
     FindOne,
     CountDocuments,
+    UpdateOne,
 }
 
 // In the order of the table of names; those that aren't built have none.
@@ -19,7 +20,7 @@ const IN_ORDER: [Option<Name>; 15] = [
     Some(Name::FindOne),
     None,
     Some(Name::CountDocuments),
-    None,
+    Some(Name::UpdateOne),
     None,
     None,
     None,
@@ -57,6 +58,7 @@ impl Name {
             Name::InsertOne => "insertOne",
             Name::FindOne => "findOne",
             Name::CountDocuments => "countDocuments",
+            Name::UpdateOne => "updateOne",
         }
     }
 }

@@ -7,11 +7,11 @@ ghost use Rattle.json_tree.specs.View.{tree};
 ghost use Rattle.json_tree.specs.Writable.{IsWritable};
 ghost use Rattle.filter_tree.specs.View.{filter_tree};
 ghost use Rattle.cmd_grammar.specs.Refused.{command_at, member_in, fields_refusal, inserted_refusal, command_refusal, refused};
-ghost use Rattle.cmd_grammar.specs.Asked.{filter_of, IsPlaced};
+ghost use Rattle.cmd_grammar.specs.Asked.{filter_of, updates_of, IsPlaced};
 ghost use Rattle.cmd_grammar.specs.Commands.{command_tree, IsAskable, IsAskableFilter, IsStorable};
 ghost use Rattle.cmd_grammar.specs.Answers.{Refuses, Passes, Answers};
 ghost use Rattle.cmd_grammar.specs.Requests.{IsReadAs};
-ghost use Rattle.cmd_grammar.specs.Judged.{named_refusal, HasParts, IsJudged, IsInsertion, IsInsertionOf};
+ghost use Rattle.cmd_grammar.specs.Judged.{named_refusal, HasParts, AreParts, IsJudged, IsInsertion, IsInsertionOf};
 
 use crate::checks::check_place;
 use crate::command::Command;
@@ -22,11 +22,19 @@ use crate::filters::read_filter;
 use crate::members::{member, take_member};
 use crate::name::{Name, command_named};
 use crate::row::table_row;
+use crate::updates::read_updates;
 use filter_tree::Filter;
 use json_text::{TextFault, read_value};
 use json_tree::Value;
 use reply_env::{Place, Request, bad_field, no_command, unread};
 use std::alloc::Global;
+use update_ops::Updates;
+
+/// What a command's value spells beside a document.
+struct Parts {
+    filter: Filter,
+    updates: Updates,
+}
 
 // The command and its value, in an object of one member under the path of a collection.
 fn named<'v>(place: &Place, value: &'v Value) -> Option<(Name, &'v Value)>
@@ -70,10 +78,10 @@ fn check_inserted(alloc: Global, command: &Value) -> Result<(), CommandFault>
     }
 }
 
-// The tests of a command's value; its filter is read by the way.
-fn check_command(alloc: Global, name: Name, command: &Value) -> Result<Filter, CommandFault>
-    ensures answers { Passes (command_refusal (name, tree command.now)) (λ f. (filter_tree f ≡ filter_of (tree command.now)) × HasParts name (tree command.now)) result }
-    ensures filter { IsWritable (tree command.now) → IfOk result (λ f. IsAskableFilter (filter_tree f)) }
+// The tests of a command's value; its filter and its update are read by the way.
+fn check_command(alloc: Global, name: Name, command: &Value) -> Result<Parts, CommandFault>
+    ensures answers { Passes (command_refusal (name, tree command.now)) (λ p. AreParts (tree command.now) (filter_tree p.filter) p.updates × HasParts name (tree command.now)) result }
+    ensures filter { IsWritable (tree command.now) → IfOk result (λ p. IsAskableFilter (filter_tree p.filter)) }
 {
     match check_members(alloc, name, command) {
         Ok(()) => {}
@@ -83,8 +91,12 @@ fn check_command(alloc: Global, name: Name, command: &Value) -> Result<Filter, C
         Ok(filter) => filter,
         Err(fault) => return Err(fault),
     };
+    let updates = match read_updates(alloc, command) {
+        Ok(updates) => updates,
+        Err(fault) => return Err(fault),
+    };
     match check_inserted(alloc, command) {
-        Ok(()) => Ok(filter),
+        Ok(()) => Ok(Parts { filter, updates }),
         Err(fault) => Err(fault),
     }
 }
@@ -96,9 +108,9 @@ fn judge_named(
     keyspace: &str,
     name: Name,
     command: &Value,
-) -> Result<Filter, CommandFault>
-    ensures answers { Passes (named_refusal keyspace.now place.now (name, tree command.now)) (λ f. (filter_tree f ≡ filter_of (tree command.now)) × HasParts name (tree command.now)) result }
-    ensures filter { IsWritable (tree command.now) → IfOk result (λ f. IsAskableFilter (filter_tree f)) }
+) -> Result<Parts, CommandFault>
+    ensures answers { Passes (named_refusal keyspace.now place.now (name, tree command.now)) (λ p. AreParts (tree command.now) (filter_tree p.filter) p.updates × HasParts name (tree command.now)) result }
+    ensures filter { IsWritable (tree command.now) → IfOk result (λ p. IsAskableFilter (filter_tree p.filter)) }
 {
     match check_place(alloc, keyspace, place) {
         Ok(()) => check_command(alloc, name, command),
@@ -112,14 +124,14 @@ fn judge(
     place: &Place,
     keyspace: &str,
     value: &Value,
-) -> Result<(Name, Filter), CommandFault>
-    ensures answers { Passes (refused keyspace.now place.now (tree value.now)) (λ j. IsJudged place.now (tree value.now) j.0 (filter_tree j.1)) result }
-    ensures filter { IsWritable (tree value.now) → IfOk result (λ j. IsAskableFilter (filter_tree j.1)) }
+) -> Result<(Name, Parts), CommandFault>
+    ensures answers { Passes (refused keyspace.now place.now (tree value.now)) (λ j. IsJudged place.now (tree value.now) j.0 (filter_tree j.1.filter) j.1.updates) result }
+    ensures filter { IsWritable (tree value.now) → IfOk result (λ j. IsAskableFilter (filter_tree j.1.filter)) }
 {
     match named(place, value) {
         None => Err(refuse(no_command(alloc))),
         Some((name, command)) => match judge_named(alloc, place, keyspace, name, command) {
-            Ok(filter) => Ok((name, filter)),
+            Ok(parts) => Ok((name, parts)),
             Err(fault) => Err(fault),
         },
     }
@@ -168,10 +180,11 @@ pub fn read_command(
     ensures placed { OnOk result (IsPlaced keyspace.now place.now) }
 {
     match judge(alloc, place, keyspace, value) {
-        Ok((name, filter)) => match name {
+        Ok((name, Parts { filter, updates })) => match name {
             Name::InsertOne => copied_insertion(alloc, value),
             Name::FindOne => Ok(Command::FindOne { filter }),
             Name::CountDocuments => Ok(Command::CountDocuments { filter }),
+            Name::UpdateOne => Ok(Command::UpdateOne { filter, updates }),
         },
         Err(fault) => Err(fault),
     }
@@ -189,10 +202,11 @@ pub fn take_command(
     ensures placed { OnOk result (IsPlaced keyspace.now place.now) }
 {
     match judge(alloc, place, keyspace, &value) {
-        Ok((name, filter)) => match name {
+        Ok((name, Parts { filter, updates })) => match name {
             Name::InsertOne => Ok(taken_insertion(value)),
             Name::FindOne => Ok(Command::FindOne { filter }),
             Name::CountDocuments => Ok(Command::CountDocuments { filter }),
+            Name::UpdateOne => Ok(Command::UpdateOne { filter, updates }),
         },
         Err(fault) => Err(fault),
     }

@@ -39,6 +39,12 @@ const FILTER: Field = Field {
     required: false,
 };
 
+const UPDATE: Field = Field {
+    name: "update",
+    kind: Kind::Object,
+    required: true,
+};
+
 const INSERT_ONE: Row = Row {
     members: &[DOCUMENT],
     options: None,
@@ -54,6 +60,11 @@ const COUNT_DOCUMENTS: Row = Row {
     options: None,
 };
 
+const UPDATE_ONE: Row = Row {
+    members: &[FILTER, UPDATE],
+    options: Some(&[]),
+};
+
 /// The row of a command.
 pub(crate) fn table_row(name: Name) -> Row
     ensures { row_of result ≡ row name }
@@ -62,6 +73,7 @@ pub(crate) fn table_row(name: Name) -> Row
         Name::InsertOne => INSERT_ONE,
         Name::FindOne => FIND_ONE,
         Name::CountDocuments => COUNT_DOCUMENTS,
+        Name::UpdateOne => UPDATE_ONE,
     }
 }
 

@@ -1,11 +1,13 @@
 -- The errors of replies: each with its code and its message. A client's own text stands in a message as it is.
-use Rattle.std.specs.Prelude.{ℕ, List, ◌++◌, codes, decimal}
+use Rattle.std.specs.Prelude.{ℕ, List, [], ◌∷◌, ◌++◌, Option, Some, None, codes, decimal}
+use Rattle.std.specs.List.{flat_map}
 use Rattle.json_tree.specs.Tree.{Tree}
 use Rattle.json_text.specs.Print.{text_of}
 use Rattle.json_text.specs.declared.read.TextFault.{TextFault}
 use Rattle.json_text.specs.declared.read.TextFault.TheVariants.{Syntax, NotUtf8, TooDeep, Number, NoMemory}
-use Rattle.name_tables.specs.declared.code.Code.TheVariants.{InvalidJson, NoCommandMatched, CommandFieldInvalid, InvalidFilterExpression, UnsupportedFilterOperation, ShredBadDocidType, ShredBadDocidEmptyString, ShredDocKeyNameViolation, ShredDocLimitViolation, NumberOutOfRange, DocumentAlreadyExists, CollectionNotExist, InvalidCollectionName, KeyspaceNotExist, StoreFault, VersionsSpent, OutOfMemory}
+use Rattle.name_tables.specs.declared.code.Code.TheVariants.{InvalidJson, NoCommandMatched, CommandFieldInvalid, InvalidFilterExpression, UnsupportedFilterOperation, UnsupportedUpdateOperation, UnsupportedUpdateOperationParam, UnsupportedUpdateForDocId, UnsupportedUpdateOperationTarget, ShredBadDocidType, ShredBadDocidEmptyString, ShredDocKeyNameViolation, ShredDocLimitViolation, NumberOutOfRange, DocumentAlreadyExists, CollectionNotExist, InvalidCollectionName, KeyspaceNotExist, ConcurrencyFailure, StoreFault, VersionsSpent, OutOfMemory}
 use Rattle.reply_env.specs.declared.reply.ErrorItem.{ErrorItem}
+use Rattle.reply_env.specs.declared.update_errors.Loss.{Loss}
 
 -- ---- the body
 
@@ -60,6 +62,43 @@ many_operands found = record { code = InvalidFilterExpression; message = codes "
 
 abbrev pub no_filter_operator : List ℕ → ErrorItem
 no_filter_operator name = record { code = UnsupportedFilterOperation; message = codes "Filter operator " ++ name ++ codes " is not supported" }
+
+-- ---- an update
+
+abbrev pub no_update_operator : List ℕ → ErrorItem
+no_update_operator name = record { code = UnsupportedUpdateOperation; message = codes "Update operator " ++ name ++ codes " is not supported" }
+
+abbrev pub bad_update_operand : List ℕ → List ℕ → ErrorItem
+bad_update_operand operator path = record { code = UnsupportedUpdateOperationParam; message = codes "Update operand is invalid for " ++ operator ++ codes " at " ++ path }
+
+-- one of the two paths leads through the other, or both are the same
+abbrev pub update_conflict : List ℕ → List ℕ → ErrorItem
+update_conflict one other = record { code = UnsupportedUpdateOperationParam; message = codes "Update paths conflict: " ++ one ++ codes " and " ++ other }
+
+abbrev pub id_unchangeable : ErrorItem
+id_unchangeable = record { code = UnsupportedUpdateForDocId; message = codes "Field _id is not changeable" }
+
+abbrev pub wrong_update_target : List ℕ → ErrorItem
+wrong_update_target path = record { code = UnsupportedUpdateOperationTarget; message = codes "Update target is of the wrong kind at " ++ path }
+
+abbrev pub number_out_of_range : List ℕ → ErrorItem
+number_out_of_range path = record { code = NumberOutOfRange; message = codes "Number is out of range at " ++ path }
+
+-- the number that stood in the place of the one that was read
+abbrev pub found_text : Option ℕ → List ℕ
+found_text None = codes "gone"
+found_text (Some tx) = decimal tx
+
+abbrev pub loss_text : Loss → List ℕ
+loss_text loss = decimal loss.read ++ codes ">" ++ found_text loss.found
+
+abbrev pub losses_text : List Loss → List ℕ
+losses_text [] = []
+losses_text (loss ∷ losses) = loss_text loss ++ flat_map (λ l. codes ", " ++ loss_text l) losses
+
+-- writes that were lost to other writers, in the order of the attempts
+abbrev pub lost_writes : List Loss → ErrorItem
+lost_writes losses = record { code = ConcurrencyFailure; message = codes "Lost to other writers: " ++ losses_text losses }
 
 -- ---- a document
 

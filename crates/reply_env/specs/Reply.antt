@@ -11,7 +11,7 @@ use Rattle.reply_env.specs.declared.reply.ErrorItem.{ErrorItem}
 use Rattle.reply_env.specs.declared.reply.SoFar.{SoFar}
 use Rattle.reply_env.specs.declared.reply.SoFar.TheVariants as so_far
 use Rattle.reply_env.specs.declared.reply.Reply.{Reply}
-use Rattle.reply_env.specs.declared.reply.Reply.TheVariants.{Inserted, Found, Counted, Refused, NoMemory}
+use Rattle.reply_env.specs.declared.reply.Reply.TheVariants.{Inserted, Found, Counted, Updated, Refused, NoMemory}
 
 -- the texts of the parts, with commas between
 abbrev pub with_commas : {X : Type 0} → (X → List ℕ) → List X → List ℕ
@@ -32,6 +32,10 @@ more_text false = []
 abbrev pub inserted_text : List Tree → List ℕ
 inserted_text ids = codes "{\"insertedIds\":[" ++ with_commas text_of ids ++ codes "]}"
 
+-- how many documents matched, and how many of them were changed
+abbrev pub updated_text : ℕ → ℕ → List ℕ
+updated_text matched modified = codes "{\"matchedCount\":" ++ decimal matched ++ codes ",\"modifiedCount\":" ++ decimal modified ++ codes "}"
+
 -- ---- errors
 
 abbrev pub error_text : ErrorItem → List ℕ
@@ -43,7 +47,7 @@ errors_text errors = codes "\"errors\":[" ++ with_commas error_text errors ++ co
 -- what the accepted writes of a refused request did: it stands before the errors
 abbrev pub so_far_text : SoFar → List ℕ
 so_far_text (so_far.Inserted ids) = inserted_text ids.items
-so_far_text (so_far.Updated matched modified) = codes "{\"matchedCount\":" ++ decimal matched ++ codes ",\"modifiedCount\":" ++ decimal modified ++ codes "}"
+so_far_text (so_far.Updated matched modified) = updated_text matched modified
 so_far_text (so_far.Deleted deleted) = codes "{\"deletedCount\":" ++ decimal deleted ++ codes "}"
 
 abbrev pub status_text : Option SoFar → List ℕ
@@ -56,6 +60,7 @@ abbrev pub reply_text : Reply → List ℕ
 reply_text (Inserted ids) = codes "{\"status\":" ++ inserted_text ids.items ++ codes "}"
 reply_text (Found view) = codes "{\"data\":{\"document\":" ++ view_text view ++ codes "}}"
 reply_text (Counted count more) = codes "{\"status\":{\"count\":" ++ decimal count ++ more_text more ++ codes "}}"
+reply_text (Updated matched modified) = codes "{\"status\":" ++ updated_text matched modified ++ codes "}"
 reply_text (Refused errors done) = status_text done ++ errors_text errors.items
 reply_text (NoMemory accepted) = codes "{" ++ errors_text (out_of_memory accepted ∷ [])
 

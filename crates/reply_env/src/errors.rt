@@ -11,7 +11,7 @@ use json_tree::{DocId, Text};
 use name_tables::Code;
 use std::alloc::{AllocError, Global};
 
-fn add_number(n: u64, message: &mut String) -> Result<(), AllocError>
+pub(crate) fn add_number(n: u64, message: &mut String) -> Result<(), AllocError>
     ensures { OnOk result (string_bytes message.new ≡ string_bytes message.old ++ decimal n) }
 {
     let mut buffer = itoa::Buffer::new();
@@ -19,7 +19,7 @@ fn add_number(n: u64, message: &mut String) -> Result<(), AllocError>
 }
 
 // An error whose message is these words.
-fn in_words(alloc: Global, code: Code, words: &str) -> Result<ErrorItem, ReplyFault>
+pub(crate) fn in_words(alloc: Global, code: Code, words: &str) -> Result<ErrorItem, ReplyFault>
     ensures { IfOk result (λ e. e ≡ record { code = code; message = words.now }) }
 {
     match Text::of_str(alloc, words) {
@@ -29,7 +29,7 @@ fn in_words(alloc: Global, code: Code, words: &str) -> Result<ErrorItem, ReplyFa
 }
 
 // An error whose message names a text between words.
-fn naming(
+pub(crate) fn naming(
     alloc: Global,
     code: Code,
     before: &str,
@@ -74,7 +74,12 @@ fn placed(alloc: Global, code: Code, before: &str, at: u64) -> Result<ErrorItem,
 }
 
 // An error whose message ends with a text.
-fn ending(alloc: Global, code: Code, before: &str, named: &str) -> Result<ErrorItem, ReplyFault>
+pub(crate) fn ending(
+    alloc: Global,
+    code: Code,
+    before: &str,
+    named: &str,
+) -> Result<ErrorItem, ReplyFault>
     ensures { IfOk result (λ e. e ≡ record { code = code; message = before.now ++ named.now }) }
 {
     let mut message = String::from_str(alloc, before)?;

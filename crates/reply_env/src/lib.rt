@@ -7,6 +7,7 @@ mod fixed;
 mod print;
 mod reply;
 mod request;
+mod update_errors;
 
 pub use errors::{
     already_exists, bad_collection_name, bad_field, bad_filter, bad_id_kind, bad_member_name,
@@ -18,6 +19,10 @@ pub use fixed::{FixedText, no_memory_reply};
 pub use print::print_reply;
 pub use reply::{ErrorItem, Reply, SoFar, refusal};
 pub use request::{Place, Request};
+pub use update_errors::{
+    Loss, bad_update_operand, id_unchangeable, lost_writes, no_update_operator,
+    number_out_of_range, update_conflict, wrong_update_target,
+};
 
 #[cfg(test)]
 mod tests;

@@ -5,7 +5,7 @@ ghost use Rattle.json_tree.specs.View.{tree};
 ghost use Rattle.json_text.specs.Print.{escaped, string_text, text_of};
 ghost use Rattle.name_tables.specs.Code.{code_text};
 ghost use Rattle.reply_env.specs.Messages.{out_of_memory};
-ghost use Rattle.reply_env.specs.Reply.{with_commas, view_text, more_text, inserted_text, error_text, errors_text, so_far_text, status_text, reply_text};
+ghost use Rattle.reply_env.specs.Reply.{with_commas, view_text, more_text, inserted_text, updated_text, error_text, errors_text, so_far_text, status_text, reply_text};
 
 use crate::fault::ReplyFault;
 use crate::fixed::no_memory_reply;
@@ -123,7 +123,7 @@ fn print_errors(errors: &[ErrorItem], out: &mut Vec<u8>) -> Result<(), AllocErro
 }
 
 fn print_updated(matched: u64, modified: u64, out: &mut Vec<u8>) -> Result<(), AllocError>
-    ensures { OnOk result (out.new.items ≡ out.old.items ++ (codes "{\"matchedCount\":" ++ decimal matched ++ codes ",\"modifiedCount\":" ++ decimal modified ++ codes "}")) }
+    ensures { OnOk result (out.new.items ≡ out.old.items ++ updated_text matched modified) }
 {
     out.extend_from_slice(b"{\"matchedCount\":")?;
     print_decimal(matched, out)?;
@@ -213,6 +213,15 @@ fn print_count(count: u64, more: bool, out: &mut Vec<u8>) -> Result<(), AllocErr
     out.extend_from_slice(b"}}")
 }
 
+fn print_update(matched: u64, modified: u64, out: &mut Vec<u8>) -> Result<(), AllocError>
+    ensures { OnOk result (out.new.items ≡ out.old.items ++ (codes "{\"status\":" ++ updated_text matched modified ++ codes "}")) }
+{
+    out.extend_from_slice(b"{\"status\":")?;
+    print_updated(matched, modified, out)?;
+    out.push(b'}')?;
+    Ok(())
+}
+
 fn print_refused(
     errors: &[ErrorItem],
     so_far: &Option<SoFar>,
@@ -238,6 +247,7 @@ fn print_behind(reply: &Reply, out: &mut Vec<u8>) -> Result<(), AllocError>
         Reply::Inserted { ids } => print_insertion(ids.as_slice(), out),
         Reply::Found { view } => print_found(view, out),
         Reply::Counted { count, more } => print_count(*count, *more, out),
+        Reply::Updated { matched, modified } => print_update(*matched, *modified, out),
         Reply::Refused { errors, so_far } => print_refused(errors.as_slice(), so_far, out),
         Reply::NoMemory { accepted } => print_no_memory(*accepted, out),
     }

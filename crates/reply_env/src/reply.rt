@@ -38,6 +38,11 @@ pub enum Reply {
         count: u64,
         more: bool,
     },
+    /// So many documents matched, and so many of them were changed.
+    Updated {
+        matched: u64,
+        modified: u64,
+    },
     /// `so_far` is there exactly where the request made an accepted write.
     Refused {
         errors: Vec<ErrorItem>,

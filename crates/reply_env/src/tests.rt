@@ -48,7 +48,7 @@ fn refused(alloc: Global, so_far: Option<SoFar>) -> Result<Reply, Fail> {
     })
 }
 
-const TEXTS: [&str; 10] = [
+const TEXTS: [&str; 11] = [
     r#"{"status":{"insertedIds":["a",2]}}"#,
     r#"{"data":{"document":{"_id":"a","n":1.5}}}"#,
     r#"{"data":{"document":null}}"#,
@@ -58,6 +58,7 @@ const TEXTS: [&str; 10] = [
     r#"{"status":{"insertedIds":["a",2]},"errors":[{"message":"Command field invalid: \u0001\"\\/é","errorCode":"COMMAND_FIELD_INVALID"},{"message":"No command matched","errorCode":"NO_COMMAND_MATCHED"}]}"#,
     r#"{"status":{"matchedCount":3,"modifiedCount":2},"errors":[{"message":"Command field invalid: \u0001\"\\/é","errorCode":"COMMAND_FIELD_INVALID"},{"message":"No command matched","errorCode":"NO_COMMAND_MATCHED"}]}"#,
     r#"{"status":{"deletedCount":18446744073709551615},"errors":[{"message":"Command field invalid: \u0001\"\\/é","errorCode":"COMMAND_FIELD_INVALID"},{"message":"No command matched","errorCode":"NO_COMMAND_MATCHED"}]}"#,
+    r#"{"status":{"matchedCount":1,"modifiedCount":0}}"#,
     r#"{"errors":[{"message":"Out of memory after 18446744073709551615 accepted writes","errorCode":"OUT_OF_MEMORY"}]}"#,
 ];
 
@@ -87,6 +88,10 @@ fn reply_at(alloc: Global, place: usize) -> Result<Reply, Fail> {
             }),
         ),
         8 => refused(alloc, Some(SoFar::Deleted { deleted: u64::MAX })),
+        9 => Ok(Reply::Updated {
+            matched: 1,
+            modified: 0,
+        }),
         _ => Ok(Reply::NoMemory { accepted: u64::MAX }),
     }
 }
@@ -107,7 +112,7 @@ fn replies_have_their_texts(rt: HostRuntime) -> Result<(), Fail> {
     Ok(())
 }
 
-const MESSAGES: [(Code, &str); 20] = [
+const MESSAGES: [(Code, &str); 27] = [
     (Code::InvalidJson, "Body is not JSON at byte 13"),
     (Code::InvalidJson, "Body is not UTF-8 at byte 0"),
     (Code::InvalidJson, "Body is nested too deep at byte 32"),
@@ -148,7 +153,51 @@ const MESSAGES: [(Code, &str); 20] = [
         "Document 2 already exists at version 5",
     ),
     (Code::CollectionNotExist, "Collection zz does not exist"),
+    (
+        Code::UnsupportedUpdateOperation,
+        "Update operator $up is not supported",
+    ),
+    (
+        Code::UnsupportedUpdateOperationParam,
+        "Update operand is invalid for $inc at n.1",
+    ),
+    (
+        Code::UnsupportedUpdateOperationParam,
+        "Update paths conflict: a.b and a",
+    ),
+    (
+        Code::UnsupportedUpdateForDocId,
+        "Field _id is not changeable",
+    ),
+    (
+        Code::UnsupportedUpdateOperationTarget,
+        "Update target is of the wrong kind at s",
+    ),
+    (Code::NumberOutOfRange, "Number is out of range at a.b"),
+    (
+        Code::ConcurrencyFailure,
+        "Lost to other writers: 1>2, 2>18446744073709551615, 7>gone, 9>10",
+    ),
     (Code::StoreFault, "Store fault: 0 then 1"),
+];
+
+const LOSSES: [Loss; 4] = [
+    Loss {
+        read: 1,
+        found: Some(2),
+    },
+    Loss {
+        read: 2,
+        found: Some(u64::MAX),
+    },
+    Loss {
+        read: 7,
+        found: None,
+    },
+    Loss {
+        read: 9,
+        found: Some(10),
+    },
 ];
 
 fn error_at(alloc: Global, place: usize) -> Result<ErrorItem, Fail> {
@@ -172,6 +221,13 @@ fn error_at(alloc: Global, place: usize) -> Result<ErrorItem, Fail> {
         16 => broken_limit(alloc, 4, 100, 101),
         17 => already_exists(alloc, &number_id(alloc, 2)?, 5),
         18 => no_collection(alloc, "zz"),
+        19 => no_update_operator(alloc, "$up"),
+        20 => bad_update_operand(alloc, "$inc", "n.1"),
+        21 => update_conflict(alloc, "a.b", "a"),
+        22 => id_unchangeable(alloc),
+        23 => wrong_update_target(alloc, "s"),
+        24 => number_out_of_range(alloc, "a.b"),
+        25 => lost_writes(alloc, &LOSSES),
         _ => store_fault(alloc, 0, 1),
     };
     Ok(made?)

@@ -139,6 +139,15 @@ fn copy_clauses(alloc: Global, clauses: &[Clause]) -> Result<Vec<Clause>, Update
 }
 
 impl Updates {
+    /// The update that has no clause.
+    pub fn none(alloc: Global) -> Updates
+        ensures { result ≡ [] }
+    {
+        Updates {
+            clauses: Vec::new(alloc),
+        }
+    }
+
     /// The clauses.
     pub fn clauses(&self) -> &[Clause]
         ensures { map clause_of result.now ≡ self.now }
