@@ -9,3 +9,5 @@ mod Requests
 mod Standing
 mod Running
 mod Opening
+pub mod Attempts
+pub mod Rounds

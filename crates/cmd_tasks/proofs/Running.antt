@@ -127,12 +127,12 @@ module _ {K : Type 0} (failed : K → ℕ) where
     faults_after = omega (arith, v.faults, faults)
 
     -- what a step makes of the session
-    pub session_after : (reply : Reply) → ForSome s.start (λ base. IsServed base s'.journal t'.coll t'.session (command_tree t'.command.value) t'.trace.items.items reply)
+    pub session_after : (reply : Reply) → ForSome s.start (λ base. IsServed base s'.journal t'.coll t'.session t'.trace.moment (command_tree t'.command.value) t'.trace.items.items reply)
         → ForSome s₀.start (λ base. (xs : List Exchange) → IsSession base s₀.journal t₀.session xs → IsSession base s'.journal t₀.session (xs ++ exchange t' reply ∷ []))
     session_after reply serves = λ base told xs h.
         let now = v.base.1 ∙ told in
         adds_session base (failed s.keeper) (failed s'.keeper) s.journal s'.journal t₀.session xs (exchange t (NoMemory 0)) (exchange t' reply) by_session (lawful base (base'.1 ∙ now)).0
-        (subst (λ (k : ℕ). IsServed base s'.journal t'.coll k (command_tree t'.command.value) t'.trace.items.items reply) (same.session ∙ v.same.session) (serves base now)) (v.session base told xs h)
+        (subst (λ (k : ℕ). IsServed base s'.journal t'.coll k t'.trace.moment (command_tree t'.command.value) t'.trace.items.items reply) (same.session ∙ v.same.session) (serves base now)) (v.session base told xs h)
 
     pub serving_goes_on : StandsOn s'.start s'.journal t' → IsServing s₀ s' t₀ t'
     serving_goes_on stands = record {

@@ -1,6 +1,6 @@
 -- What a step of the work is, told or not; and how it goes on with a request that is under way.
 use Rattle.std.specs.Prelude.{◌≡◌, ◌⊎◌, ℕ, ℤ, zero, suc, ◌+◌, ◌-◌, ◌<◌, ◌≤◌, List, [], ◌∷◌, ◌++◌, length, map, reverse, Bool, true, false, Option, Some, None, ⊤, IfSome, nat_le, if◌then◌else◌, Vec}
-use Rattle.std.specs.declared.alloc.Global.{Global}
+use Rattle.std_heap.specs.declared.Global.{Global}
 use Rattle.std.specs.Option.{ForSome, option_map}
 use Rattle.std.specs.List.{filter}
 use Rattle.outside_io.specs.Causes.{Rose}
@@ -78,17 +78,17 @@ Begins moment c (Changing u read d) = ⊥
 Begins moment c (Done reply) = ⊥
 
 -- of so many attempts that are left, each has a listing before it
-abbrev pub rounds : ℕ → ℕ
-rounds zero = 0
-rounds (suc n) = rounds n + (rank_of None + 2)
+abbrev pub tries_rank : ℕ → ℕ
+tries_rank zero = 0
+tries_rank (suc n) = tries_rank n + (rank_of None + 2)
 
 -- the number that each step lowers that isn't the last one
 abbrev pub left : State → ℕ
 left (Inserting d) = 1
 left (Selecting w last) = rank_of last
 left (Counting w last n) = rank_of last
-left (Choosing u last) = rounds (4 - length u.lost.items) + (rank_of last + 1)
-left (Changing u read d) = rounds (4 - length u.lost.items)
+left (Choosing u last) = tries_rank (4 - length u.lost.items) + (rank_of last + 1)
+left (Changing u read d) = tries_rank (4 - length u.lost.items)
 left (Done reply) = 0
 
 -- a failed call is one in which the keeper's count rose
@@ -181,7 +181,7 @@ count_to w item n (Some u) = if nat_le 1001 n then m.Ends item (counted n) else 
 
 -- what an update makes of the row that is taken: the attempt comes next, or no write is needed
 abbrev pub Takes : Updating → Item → Version → Moved → Type 0
-Takes u item v (m.Goes i w) = (new : Tree) × MakesAnother u.updates u.moment v.doc new × (i ≡ item) × (w ≡ Changing u v.tx new)
+Takes u item v (m.Goes i w) = (new : Tree) × MakesAnother u.updates u.moment v.doc new × ((id_of v.doc ≡ id_of new) × KeepsLimits new) × (i ≡ item) × (w ≡ Changing u v.tx new)
 Takes u item v (m.Ends i reply) = (i ≡ item) × (TellsUnwritten (apply u.updates v.doc u.moment false) v.doc reply ⊎ (reply ≡ NoMemory 0))
 Takes u item v m.NoMemory = ⊥
 

@@ -20,7 +20,8 @@ mod update;
 
 pub use fault::UpdateFault;
 pub use laws::{
-    increments_are_undone, sets_are_seen, steady_updates_settle, twice_is_once, unsets_are_seen,
+    ids_are_kept, increments_are_undone, sets_are_seen, steady_updates_settle, twice_is_once,
+    unsets_are_seen,
 };
 pub use operator::Operator;
 pub use rows::{documents_are_made, operators_work, paths_conflict};

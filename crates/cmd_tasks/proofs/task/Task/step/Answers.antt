@@ -22,7 +22,7 @@ returns-then-is_err-clause-done g c = λ d. done_so c.replace-state.new.dest _ (
 pub returns-in-Goes-clause-more : goal.returns-in-Goes-clause-more
 returns-in-Goes-clause-more g c = λ m. (
   subst (λ b. StandsOn b c.advance.new.store.journal (record c.args.self.now { trace = record c.args.self.now.trace { items = c.push_reserved.new.self }; state = c.in-Goes.state })) (sym c.in-Goes.ensures.base.1)
-      (stands_on _ _ _ _ _ c.args.self.now c.replace-state.result c.in-Goes.state c.in-Goes.item (record c.args.self.now.trace { items = c.push_reserved.new.self }) c.requires.stands (search rules) (search rules) c.in-Goes.ensures.steps c.in-Goes.ensures.leads),
+      (stands_on _ _ _ _ _ c.args.self.now c.replace-state.result c.in-Goes.state c.in-Goes.item c.push_reserved.new.self c.requires.stands (search rules) (search rules) c.in-Goes.ensures.steps c.in-Goes.ensures.leads),
   search rules,
 )
 
