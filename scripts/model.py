@@ -458,10 +458,197 @@ def ordered(value):
     return {"number": lambda: value.units, "date": lambda: value.moment, "text": lambda: value.encode()}[kind(value)]()
 
 
+# ---- updates ----
+
+UPDATE_OPERATORS = ["$set", "$unset", "$inc", "$mul", "$min", "$max", "$rename", "$push", "$pop", "$addToSet",
+                    "$setOnInsert", "$currentDate"]
+SCALARS = ["null", "number", "text", "bool", "date"]
+UPDATE_PARAM = "UNSUPPORTED_UPDATE_OPERATION_PARAM"
+
+
+def storable(value):
+    return all(1 <= size(name) <= 100 and NAME.match(name) for name in names_in(value))
+
+
+def form_of(operand, placed):
+    """(values, place) of an operand of `$push` or `$addToSet`, or None where it is none."""
+    if not (isinstance(operand, Members) and operand.pairs and operand.pairs[0][0].startswith("$")):
+        return ([operand], None) if storable(operand) else None
+    values, place = operand.get("$each"), operand.get("$position")
+    known = ["$each"] + ["$position"] * placed
+    if any(name not in known for name in operand.names()) or not isinstance(values, list) or not all(map(storable, values)):
+        return None
+    if place is ABSENT:
+        return values, None
+    place, rest = divmod(place.units, 10 ** PLACES) if isinstance(place, Number) else (0, 1)
+    return None if rest or not -2 ** 63 <= place < 2 ** 63 else (values, place)
+
+
+def good_operand(operator, operand):
+    if operator in ("$set", "$setOnInsert"):
+        return storable(operand)
+    if operator in ("$inc", "$mul"):
+        return isinstance(operand, Number)
+    if operator in ("$min", "$max"):
+        return kind(operand) in SCALARS
+    if operator == "$rename":
+        return isinstance(operand, str) and path_parts(operand) is not None
+    if operator in ("$push", "$addToSet"):
+        return form_of(operand, operator == "$push") is not None
+    if operator == "$pop":
+        return isinstance(operand, Number) and abs(operand.units) == 10 ** PLACES
+    return operand is True if operator == "$currentDate" else True
+
+
+def read_updates(value):
+    """The clauses of an update, in the order in which they are applied: (operator, path, operand)."""
+    for name in value.names():
+        if name not in UPDATE_OPERATORS:
+            raise Fault("UNSUPPORTED_UPDATE_OPERATION", f"Update operator {name} is not supported")
+    clauses = []
+    for operator in UPDATE_OPERATORS:
+        of_paths = value.get(operator)
+        if of_paths is ABSENT:
+            continue
+        if not isinstance(of_paths, Members):
+            raise Fault(UPDATE_PARAM, f"Update operand is invalid for {operator} at ")
+        for path, operand in of_paths.pairs:
+            if path_parts(path) is None or not good_operand(operator, operand):
+                raise Fault(UPDATE_PARAM, f"Update operand is invalid for {operator} at {path}")
+            clauses.append((operator, path, operand))
+    paths = [path for operator, path, operand in clauses for path in [path] + [operand] * (operator == "$rename")]
+    for i, path in enumerate(paths):
+        for earlier in paths[:i]:
+            p, q = path.split("."), earlier.split(".")
+            if p[:len(q)] == q or q[:len(p)] == p:
+                raise Fault(UPDATE_PARAM, f"Update paths conflict: {earlier} and {path}")
+    if any(path.split(".")[0] == "_id" for path in paths):
+        raise Fault("UNSUPPORTED_UPDATE_FOR_DOC_ID", "Field _id is not changeable")
+    return clauses
+
+
+def wrong_target(path):
+    return Fault("UNSUPPORTED_UPDATE_OPERATION_TARGET", f"Update target is of the wrong kind at {path}")
+
+
+def put(value, parts, new, path):
+    """The value with `new` at these parts."""
+    if not parts:
+        return new
+    part, rest = parts[0], parts[1:]
+    if isinstance(value, Members):
+        old = value.get(part)
+        inner = put(Members([]) if old is ABSENT else old, rest, new, path)
+        if old is ABSENT:
+            return Members(value.pairs + [(part, inner)])
+        return Members([(name, inner if name == part else other) for name, other in value.pairs])
+    if not isinstance(value, list) or not re.match(r"(0|[1-9][0-9]*)\Z", part):
+        raise wrong_target(path)
+    place = int(part)
+    if place < len(value):
+        return value[:place] + [put(value[place], rest, new, path)] + value[place + 1:]
+    if place > 999:
+        raise wrong_target(path)
+    return value + [None] * (place - len(value)) + [put(Members([]), rest, new, path)]
+
+
+def take(value, parts):
+    """The value without what stands at these parts: a member is gone, an element is null."""
+    part, rest = parts[0], parts[1:]
+    if isinstance(value, Members):
+        if rest:
+            return Members([(name, take(other, rest) if name == part else other) for name, other in value.pairs])
+        return Members([pair for pair in value.pairs if pair[0] != part])
+    place = int(part)
+    return value[:place] + [take(value[place], rest) if rest else None] + value[place + 1:]
+
+
+def coefficient(units):
+    """(the number without its trailing zeros, how many these are), at most 18 of them."""
+    for zeros in range(PLACES, -1, -1):
+        if units % 10 ** zeros == 0:
+            return units // 10 ** zeros, zeros
+    return units, 0
+
+
+def product(a, b):
+    """The product of two counts of units, or None."""
+    (c, m), (d, n) = coefficient(a), coefficient(b)
+    if abs(c * d) >= RANGE:
+        return None
+    units, rest = divmod(abs(a * b), 10 ** PLACES)
+    return None if rest or units >= RANGE else units if (a < 0) == (b < 0) else -units
+
+
+def scalar_key(value):
+    return SCALARS.index(kind(value)), int(value) if isinstance(value, bool) else 0 if value is None else ordered(value)
+
+
+def put_by(operator, path, operand, found):
+    """What an operator that goes by the value there puts there, or ABSENT."""
+    if operator == "$set":
+        return operand
+    if operator in ("$inc", "$mul"):
+        if found is ABSENT:
+            return operand if operator == "$inc" else Number(0)
+        if not isinstance(found, Number):
+            raise wrong_target(path)
+        units = found.units + operand.units if operator == "$inc" else product(found.units, operand.units)
+        if units is None or abs(units) >= RANGE:
+            raise Fault("NUMBER_OUT_OF_RANGE", f"Number is out of range at {path}")
+        return Number(units)
+    if operator in ("$min", "$max"):
+        if found is ABSENT:
+            return operand
+        if kind(found) not in SCALARS:
+            raise wrong_target(path)
+        less, more = sorted([scalar_key(found), scalar_key(operand)])
+        wanted = scalar_key(operand) == (less if operator == "$min" else more) and less != more
+        return operand if wanted else ABSENT
+    return put_in_list(operator, path, operand, [] if found is ABSENT else found, found is ABSENT)
+
+
+def put_in_list(operator, path, operand, items, is_new):
+    if not isinstance(items, list):
+        raise wrong_target(path)
+    if operator == "$pop":
+        return ABSENT if not items else items[:-1] if operand.units > 0 else items[1:]
+    values, place = form_of(operand, operator == "$push")
+    if operator == "$push":
+        place = len(items) if place is None else min(place, len(items)) if place >= 0 else max(len(items) + place, 0)
+        return items[:place] + values + items[place:]
+    for value in values:
+        if not any(same(value, item) for item in items):
+            items = items + [value]
+    return items
+
+
+def apply_updates(clauses, document):
+    """The new document; the update of an existing one has no moment here, so `$currentDate` isn't asked for."""
+    for operator, path, operand in clauses:
+        parts = path_parts(path)
+        found = value_at(document, parts)
+        if operator == "$setOnInsert" or (operator in ("$unset", "$rename", "$pop") and found is ABSENT):
+            continue
+        if operator == "$unset":
+            document = take(document, parts)
+        elif operator == "$rename":
+            document = put(take(document, parts), path_parts(operand), found, operand)
+        else:
+            new = put_by(operator, path, operand, found)
+            document = document if new is ABSENT else put(document, parts, new, path)
+    broken = limit_fault(document)
+    if broken:
+        raise Fault("SHRED_DOC_LIMIT_VIOLATION", "Document limit %d is %d, found %d" % broken)
+    return document
+
+
 # ---- requests ----
 
 ROWS = {"insertOne": {"document": ("object", True)}, "findOne": {"filter": ("object", False)},
-        "countDocuments": {"filter": ("object", False)}}
+        "countDocuments": {"filter": ("object", False)},
+        "updateOne": {"filter": ("object", False), "update": ("object", True)}}
+OPTIONS = {"updateOne": []}
 TAGS = {"text": 1, "number": 2, "bool": 3, "null": 4, "date": 5}
 
 
@@ -499,12 +686,15 @@ class Service:
         else:
             given = wanted.get("filter")
             matches = read_filter(Members([]) if given is ABSENT else given)
+        clauses = read_updates(wanted.get("update")) if name == "updateOne" else []
         if collection not in self.rows:
             raise Fault("COLLECTION_NOT_EXIST", f"Collection {collection} does not exist")
         rows = self.rows[collection]
         if name == "insertOne":
             return self.insert(rows, wanted.get("document"))
         found = [document for _, (_, document) in sorted(rows.items()) if matches(document)]
+        if name == "updateOne":
+            return self.update(rows, clauses, found)
         if name == "findOne":
             return '{"data":{"document":%s}}' % (text_of(found[0]) if found else "null")
         more = ',"moreData":true' if len(found) > 1000 else ""
@@ -524,7 +714,10 @@ class Service:
             refuse(name)
         row = ROWS[name]
         for member, value in wanted.pairs:
-            if member not in row or kind(value) != row[member][0]:
+            if member == "options" and name in OPTIONS and isinstance(value, Members):
+                for option in value.names():
+                    refuse("options." + option)
+            elif member not in row or kind(value) != row[member][0]:
                 refuse(member)
         for member, (_, required) in row.items():
             if required and wanted.get(member) is ABSENT:
@@ -538,6 +731,17 @@ class Service:
         self.last += 1
         rows[key] = self.last, document
         return '{"status":{"insertedIds":[%s]}}' % text
+
+
+    def update(self, rows, clauses, found):
+        changed = False
+        if found:
+            document = apply_updates(clauses, found[0])
+            changed = not same(document, found[0])
+        if changed:
+            self.last += 1
+            rows[id_key(document.get("_id"))] = self.last, document
+        return '{"status":{"matchedCount":%d,"modifiedCount":%d}}' % (len(found[:1]), changed)
 
 
 # ---- lines ----

@@ -9,14 +9,15 @@ use Rattle.json_tree.specs.Members.{member_at}
 use Rattle.json_tree.specs.View.{tree}
 use Rattle.doc_paths.specs.Name.{is_collection_name}
 use Rattle.filter_tree.specs.Filters.{FilterTree}
+use Rattle.update_ops.specs.Clauses.{Clause}
 use Rattle.reply_env.specs.Messages.{bad_collection_name, no_keyspace}
 use Rattle.reply_env.specs.declared.reply.ErrorItem.{ErrorItem}
 use Rattle.reply_env.specs.declared.request.Place.{Place}
 use Rattle.cmd_grammar.specs.First.{first_of}
 use Rattle.cmd_grammar.specs.Names.{command_named, command_text}
-use Rattle.cmd_grammar.specs.Commands.{CommandTree, insert_one, find_one, count_documents, command_tree, IsStorable, IsAskable}
+use Rattle.cmd_grammar.specs.Commands.{CommandTree, insert_one, find_one, count_documents, update_one, command_tree, IsStorable, IsAskable}
 use Rattle.cmd_grammar.specs.Refused.{command_at, member_in, refused, no_command_refusal, keyspace_refusal, collection_refusal, command_refusal}
-use Rattle.cmd_grammar.specs.Asked.{filter_of, document_of, command_of, command_in, asked, IsPlaced}
+use Rattle.cmd_grammar.specs.Asked.{filter_of, updates_of, document_of, command_of, command_in, asked, IsPlaced}
 use Rattle.json_text.specs.Grammar.{Reads}
 use Rattle.json_text.specs.Fault.{IsFault}
 use Rattle.json_text.specs.declared.read.TextFault.{TextFault}
@@ -27,7 +28,7 @@ use Rattle.cmd_grammar.specs.Requests.{IsReadAs}
 use Rattle.cmd_grammar.specs.Judged.{IsJudged, IsInsertion, IsInsertionOf}
 use Rattle.cmd_grammar.specs.Answers.{Passes, Refuses, Answers}
 use Rattle.cmd_grammar.specs.declared.name.Name.{Name}
-use Rattle.cmd_grammar.specs.declared.name.Name.TheVariants.{InsertOne, FindOne, CountDocuments}
+use Rattle.cmd_grammar.specs.declared.name.Name.TheVariants.{InsertOne, FindOne, CountDocuments, UpdateOne}
 use Rattle.cmd_grammar.specs.declared.command.Command.{Command}
 use Rattle.cmd_grammar.specs.declared.command.Command.TheVariants as commands
 use Rattle.cmd_grammar.specs.declared.fault.CommandFault.{CommandFault}
@@ -48,7 +49,7 @@ at_name n u inner name (Some k) e h =
     let same : k ≡ name = ap (λ (q : Name × Tree). q.0) pair in
     let value : u ≡ inner = ap (λ (q : Name × Tree). q.1) pair in
     let is : command_named n ≡ Some name = sym e ∙ ap (λ (x : Name). Some x) same in
-    let its : command_text name ≡ n = named_text (InsertOne ∷ FindOne ∷ CountDocuments ∷ []) n name is in
+    let its : command_text name ≡ n = named_text (InsertOne ∷ FindOne ∷ CountDocuments ∷ UpdateOne ∷ []) n name is in
     found_here (bytes_eq n (command_text name)) u ((bytes_eq-Decides n (command_text name)).1 (sym its)) ∙ ap (λ (x : Tree). Some x) value
 
 pub at_member : (o : Option (List ℕ)) (t inner : Tree) (name : Name) → command_at o t ≡ Some (name, inner) → member_in (command_text name) t ≡ Some inner
@@ -65,11 +66,13 @@ at_member (Some c) (list ts) inner name e = absurd (Prim.cc e)
 
 -- ---- the command
 
-pub asked_is : (place : Place) (t : Tree) (name : Name) (f : FilterTree) (j : IsJudged place t name f) → asked place t ≡ Some (command_of name f (document_of j.inner))
-asked_is place t name f j = ap (option_map command_in) j.is_at ∙ ap (λ (g : FilterTree). Some (command_of name g (document_of j.inner))) (sym j.is_filter)
+pub asked_is : (place : Place) (t : Tree) (name : Name) (f : FilterTree) (u : List Clause) (j : IsJudged place t name f u) → asked place t ≡ Some (command_of name f u (document_of j.inner))
+asked_is place t name f u j =
+    ap (option_map command_in) j.is_at ∙ ap (λ (g : FilterTree). Some (command_of name g (updates_of j.inner) (document_of j.inner))) (sym j.are_parts.0)
+    ∙ ap (λ (w : List Clause). Some (command_of name f w (document_of j.inner))) (sym j.are_parts.1)
 
-pub insertion_is : (place : Place) (t : Tree) (f : FilterTree) → IsJudged place t InsertOne f → IsInsertion t
-insertion_is place t f j = record { inner = j.inner; is_value = at_member place.collection t j.inner InsertOne j.is_at; storable = j.parts }
+pub insertion_is : (place : Place) (t : Tree) (f : FilterTree) (u : List Clause) → IsJudged place t InsertOne f u → IsInsertion t
+insertion_is place t f u j = record { inner = j.inner; is_value = at_member place.collection t j.inner InsertOne j.is_at; storable = j.parts }
 
 -- the document of an insertion
 document_is : (t inner d : Tree) → member_in (codes "insertOne") t ≡ Some inner → option_and_then (member_in (codes "document")) (member_in (codes "insertOne") t) ≡ Some d → document_of inner ≡ d
@@ -77,12 +80,13 @@ document_is t inner d e h =
     let found : member_in (codes "document") inner ≡ Some d = sym (ap (option_and_then (member_in (codes "document"))) e) ∙ h in
     ap (λ (o : Option Tree). unwrap_or o null) found
 
-pub inserted : (place : Place) (t : Tree) (f : FilterTree) (k : CommandTree) → IsJudged place t InsertOne f → IsInsertionOf t k → (asked place t ≡ Some k) × IsAskable k
-inserted place t f (insert_one d) j h =
+pub inserted : (place : Place) (t : Tree) (f : FilterTree) (u : List Clause) (k : CommandTree) → IsJudged place t InsertOne f u → IsInsertionOf t k → (asked place t ≡ Some k) × IsAskable k
+inserted place t f u (insert_one d) j h =
     let same : document_of j.inner ≡ d = document_is t j.inner d (at_member place.collection t j.inner InsertOne j.is_at) h in
-    (asked_is place t InsertOne f j ∙ ap (λ (x : Tree). Some (insert_one x)) same, subst IsStorable same j.parts)
-inserted place t f (find_one g) j h = absurd h
-inserted place t f (count_documents g) j h = absurd h
+    (asked_is place t InsertOne f u j ∙ ap (λ (x : Tree). Some (insert_one x)) same, subst IsStorable same j.parts)
+inserted place t f u (find_one g) j h = absurd h
+inserted place t f u (count_documents g) j h = absurd h
+inserted place t f u (update_one g w) j h = absurd h
 
 -- ---- the place
 
@@ -110,24 +114,24 @@ placed_of keyspace place t p e h =
 
 -- ---- the insertion that was read
 
-pub named_insertion : (place : Place) (t : Tree) (name : Name) (f : FilterTree) → name ≡ InsertOne → IsJudged place t name f → IsInsertion t
-named_insertion place t name f e j = insertion_is place t f (subst (λ (n : Name). IsJudged place t n f) e j)
+pub named_insertion : (place : Place) (t : Tree) (name : Name) (f : FilterTree) (u : List Clause) → name ≡ InsertOne → IsJudged place t name f u → IsInsertion t
+named_insertion place t name f u e j = insertion_is place t f u (subst (λ (n : Name). IsJudged place t n f u) e j)
 
-pub answers_insertion : (keyspace : List ℕ) (place : Place) (t : Tree) (name : Name) (f : FilterTree) (r : Result Command CommandFault) → refused keyspace place t ≡ None → name ≡ InsertOne → IsJudged place t name f → Passes None (λ c. IsInsertionOf t (command_tree c)) r → Answers keyspace place t r
-answers_insertion keyspace place t name f (Ok c) h e j p = (h, (inserted place t f (command_tree c) (subst (λ (n : Name). IsJudged place t n f) e j) p.1).0)
-answers_insertion keyspace place t name f (Err NoMemory) h e j p = tt
-answers_insertion keyspace place t name f (Err (Refused code message)) h e j p = absurd (Prim.cc p)
+pub answers_insertion : (keyspace : List ℕ) (place : Place) (t : Tree) (name : Name) (f : FilterTree) (u : List Clause) (r : Result Command CommandFault) → refused keyspace place t ≡ None → name ≡ InsertOne → IsJudged place t name f u → Passes None (λ c. IsInsertionOf t (command_tree c)) r → Answers keyspace place t r
+answers_insertion keyspace place t name f u (Ok c) h e j p = (h, (inserted place t f u (command_tree c) (subst (λ (n : Name). IsJudged place t n f u) e j) p.1).0)
+answers_insertion keyspace place t name f u (Err NoMemory) h e j p = tt
+answers_insertion keyspace place t name f u (Err (Refused code message)) h e j p = absurd (Prim.cc p)
 
-pub ready_insertion : (place : Place) (t : Tree) (name : Name) (f : FilterTree) (r : Result Command CommandFault) → name ≡ InsertOne → IsJudged place t name f → Passes None (λ c. IsInsertionOf t (command_tree c)) r → IfOk r (λ c. IsAskable (command_tree c))
-ready_insertion place t name f (Ok c) e j p = (inserted place t f (command_tree c) (subst (λ (n : Name). IsJudged place t n f) e j) p.1).1
-ready_insertion place t name f (Err fault) e j p = tt
+pub ready_insertion : (place : Place) (t : Tree) (name : Name) (f : FilterTree) (u : List Clause) (r : Result Command CommandFault) → name ≡ InsertOne → IsJudged place t name f u → Passes None (λ c. IsInsertionOf t (command_tree c)) r → IfOk r (λ c. IsAskable (command_tree c))
+ready_insertion place t name f u (Ok c) e j p = (inserted place t f u (command_tree c) (subst (λ (n : Name). IsJudged place t n f u) e j) p.1).1
+ready_insertion place t name f u (Err fault) e j p = tt
 
 pub placed_insertion : (P : Type 0) (r : Result Command CommandFault) → P → OnOk r P
 placed_insertion P (Ok c) p = p
 placed_insertion P (Err fault) p = tt
 
-pub asks : (place : Place) (t : Tree) (name wanted : Name) (f : FilterTree) → name ≡ wanted → (j : IsJudged place t name f) → asked place t ≡ Some (command_of wanted f (document_of j.inner))
-asks place t name wanted f e j = asked_is place t name f j ∙ ap (λ (n : Name). Some (command_of n f (document_of j.inner))) e
+pub asks : (place : Place) (t : Tree) (name wanted : Name) (f : FilterTree) (u : List Clause) → name ≡ wanted → (j : IsJudged place t name f u) → asked place t ≡ Some (command_of wanted f u (document_of j.inner))
+asks place t name wanted f u e j = asked_is place t name f u j ∙ ap (λ (n : Name). Some (command_of n f u (document_of j.inner))) e
 
 -- ---- its parts in the body
 

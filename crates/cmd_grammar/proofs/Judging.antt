@@ -14,7 +14,7 @@ use Rattle.cmd_grammar.specs.Rows.{row}
 use Rattle.cmd_grammar.specs.Fields.{member_refusal, missing_refusal, members_refusal}
 use Rattle.cmd_grammar.specs.Documents.{document_refusal}
 use Rattle.cmd_grammar.specs.Commands.{IsStorable}
-use Rattle.cmd_grammar.specs.Refused.{command_at, member_in, fields_refusal, filter_refusal, inserted_refusal, command_refusal, keyspace_refusal, collection_refusal, no_command_refusal, refused}
+use Rattle.cmd_grammar.specs.Refused.{command_at, member_in, fields_refusal, filter_refusal, update_refusal, inserted_refusal, command_refusal, keyspace_refusal, collection_refusal, no_command_refusal, refused}
 use Rattle.cmd_grammar.specs.Asked.{document_of}
 use Rattle.cmd_grammar.specs.Judged.{HasParts, named_refusal}
 use Rattle.std.specs.Prelude.{Result, Ok, Err, IfOk, MatchResult}
@@ -22,31 +22,46 @@ use Rattle.reply_env.specs.declared.fault.ReplyFault.{ReplyFault}
 use Rattle.cmd_grammar.specs.declared.fault.CommandFault.TheVariants.{NoMemory}
 use Rattle.cmd_grammar.specs.Answers.{Refuses, Passes}
 use Rattle.cmd_grammar.specs.declared.name.Name.{Name}
-use Rattle.cmd_grammar.specs.declared.name.Name.TheVariants.{InsertOne, FindOne, CountDocuments}
+use Rattle.cmd_grammar.specs.declared.name.Name.TheVariants.{InsertOne, FindOne, CountDocuments, UpdateOne}
 use Rattle.cmd_grammar.specs.declared.fault.CommandFault.{CommandFault}
 use Rattle.cmd_grammar.proofs.Order.{neither_fires, goes_on, refuses_first, refuses_later}
 use Rattle.cmd_grammar.proofs.Table.{named_text}
 
 -- ---- a command's value
 
+-- the tests behind that of the members, and behind that of the filter
+abbrev behind_fields : Tree → List (Option ErrorItem)
+behind_fields t = filter_refusal t ∷ update_refusal t ∷ inserted_refusal t ∷ []
+
+abbrev behind_filter : Tree → List (Option ErrorItem)
+behind_filter t = update_refusal t ∷ inserted_refusal t ∷ []
+
 pub fields_fire : (name : Name) (t : Tree) (fault : CommandFault) → Refuses (fields_refusal (name, t)) fault → Refuses (command_refusal (name, t)) fault
-fields_fire name t fault r = refuses_first (fields_refusal (name, t)) (first_of (filter_refusal t ∷ inserted_refusal t ∷ [])) fault r
+fields_fire name t fault r = refuses_first (fields_refusal (name, t)) (first_of (behind_fields t)) fault r
 
 pub filter_fires : (name : Name) (t : Tree) (fault : CommandFault) → fields_refusal (name, t) ≡ None → Refuses (filter_refusal t) fault → Refuses (command_refusal (name, t)) fault
 filter_fires name t fault none r =
-    refuses_later (fields_refusal (name, t)) (first_of (filter_refusal t ∷ inserted_refusal t ∷ [])) fault none
-    (refuses_first (filter_refusal t) (first_of (inserted_refusal t ∷ [])) fault r)
+    refuses_later (fields_refusal (name, t)) (first_of (behind_fields t)) fault none
+    (refuses_first (filter_refusal t) (first_of (behind_filter t)) fault r)
 
-pub document_fires : (name : Name) (t : Tree) (fault : CommandFault) → fields_refusal (name, t) ≡ None → filter_refusal t ≡ None → Refuses (inserted_refusal t) fault → Refuses (command_refusal (name, t)) fault
-document_fires name t fault a b r =
-    refuses_later (fields_refusal (name, t)) (first_of (filter_refusal t ∷ inserted_refusal t ∷ [])) fault a
-    (refuses_later (filter_refusal t) (first_of (inserted_refusal t ∷ [])) fault b
-    (refuses_first (inserted_refusal t) None fault r))
+pub update_fires : (name : Name) (t : Tree) (fault : CommandFault) → fields_refusal (name, t) ≡ None → filter_refusal t ≡ None → Refuses (update_refusal t) fault → Refuses (command_refusal (name, t)) fault
+update_fires name t fault a b r =
+    refuses_later (fields_refusal (name, t)) (first_of (behind_fields t)) fault a
+    (refuses_later (filter_refusal t) (first_of (behind_filter t)) fault b
+    (refuses_first (update_refusal t) (first_of (inserted_refusal t ∷ [])) fault r))
 
-pub none_fires : (name : Name) (t : Tree) → fields_refusal (name, t) ≡ None → filter_refusal t ≡ None → inserted_refusal t ≡ None → command_refusal (name, t) ≡ None
-none_fires name t a b d =
-    goes_on (fields_refusal (name, t)) (first_of (filter_refusal t ∷ inserted_refusal t ∷ [])) a
-    ∙ goes_on (filter_refusal t) (first_of (inserted_refusal t ∷ [])) b
+pub document_fires : (name : Name) (t : Tree) (fault : CommandFault) → fields_refusal (name, t) ≡ None → filter_refusal t ≡ None → update_refusal t ≡ None → Refuses (inserted_refusal t) fault → Refuses (command_refusal (name, t)) fault
+document_fires name t fault a b u r =
+    refuses_later (fields_refusal (name, t)) (first_of (behind_fields t)) fault a
+    (refuses_later (filter_refusal t) (first_of (behind_filter t)) fault b
+    (refuses_later (update_refusal t) (first_of (inserted_refusal t ∷ [])) fault u
+    (refuses_first (inserted_refusal t) None fault r)))
+
+pub none_fires : (name : Name) (t : Tree) → fields_refusal (name, t) ≡ None → filter_refusal t ≡ None → update_refusal t ≡ None → inserted_refusal t ≡ None → command_refusal (name, t) ≡ None
+none_fires name t a b u d =
+    goes_on (fields_refusal (name, t)) (first_of (behind_fields t)) a
+    ∙ goes_on (filter_refusal t) (first_of (behind_filter t)) b
+    ∙ goes_on (update_refusal t) (first_of (inserted_refusal t ∷ [])) u
     ∙ goes_on (inserted_refusal t) None d
 
 -- ---- a request
@@ -105,6 +120,7 @@ pub parts : (name : Name) (t : Tree) → fields_refusal (name, t) ≡ None → I
 parts InsertOne t h s = storable t (member_in (codes "document") t) (has_document t h) s
 parts FindOne t h s = tt
 parts CountDocuments t h s = tt
+parts UpdateOne t h s = tt
 
 -- ---- the value of a command
 

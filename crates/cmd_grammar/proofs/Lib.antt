@@ -5,3 +5,4 @@ pub mod Order
 pub mod Storing
 pub mod Table
 pub mod Wanted
+pub mod Update

@@ -31,6 +31,7 @@ use std::alloc::Global;
 use update_ops::Updates;
 
 /// What a command's value spells beside a document.
+#[derive(Drop)]
 struct Parts {
     filter: Filter,
     updates: Updates,
@@ -180,11 +181,18 @@ pub fn read_command(
     ensures placed { OnOk result (IsPlaced keyspace.now place.now) }
 {
     match judge(alloc, place, keyspace, value) {
-        Ok((name, Parts { filter, updates })) => match name {
+        Ok((name, parts)) => match name {
             Name::InsertOne => copied_insertion(alloc, value),
-            Name::FindOne => Ok(Command::FindOne { filter }),
-            Name::CountDocuments => Ok(Command::CountDocuments { filter }),
-            Name::UpdateOne => Ok(Command::UpdateOne { filter, updates }),
+            Name::FindOne => Ok(Command::FindOne {
+                filter: parts.filter,
+            }),
+            Name::CountDocuments => Ok(Command::CountDocuments {
+                filter: parts.filter,
+            }),
+            Name::UpdateOne => Ok(Command::UpdateOne {
+                filter: parts.filter,
+                updates: parts.updates,
+            }),
         },
         Err(fault) => Err(fault),
     }
@@ -202,11 +210,18 @@ pub fn take_command(
     ensures placed { OnOk result (IsPlaced keyspace.now place.now) }
 {
     match judge(alloc, place, keyspace, &value) {
-        Ok((name, Parts { filter, updates })) => match name {
+        Ok((name, parts)) => match name {
             Name::InsertOne => Ok(taken_insertion(value)),
-            Name::FindOne => Ok(Command::FindOne { filter }),
-            Name::CountDocuments => Ok(Command::CountDocuments { filter }),
-            Name::UpdateOne => Ok(Command::UpdateOne { filter, updates }),
+            Name::FindOne => Ok(Command::FindOne {
+                filter: parts.filter,
+            }),
+            Name::CountDocuments => Ok(Command::CountDocuments {
+                filter: parts.filter,
+            }),
+            Name::UpdateOne => Ok(Command::UpdateOne {
+                filter: parts.filter,
+                updates: parts.updates,
+            }),
         },
         Err(fault) => Err(fault),
     }
