@@ -148,8 +148,7 @@ mark_stops : (base : Base) (coll : Name) (k : ℕ) (P : Option Tree → Option T
     → (IsGone coll (replay base H) × (error ≡ errors.no_collection coll)) ⊎ (((replay base H).next ≡ 2 ^ 63 - 1) × (error ≡ errors.versions_spent)) → Stops base coll k P W i (sight H' i) error
 mark_stops base coll k P W H H' at after up (Looked a from to pairs) error same here is marks writes cause =
     let past : take a H' ≡ H = saw H H' a same (is.0 ∙ here) in
-    let back : replay base H ≡ replay base (take a H') = ap (replay base) (sym past) in
-    (
+    let back : replay base H ≡ replay base (take a H') = ap (replay base) (sym past) in (
       subst (λ (z : Option Tree × Option Tree). P z.0 z.1) (λ j. (sym is.1 j, sym is.2 j)) marks,
       is.3,
       ⊎_elim (λ z. inl (subst (IsGone coll) back z.0, z.1)) (λ z. inr (writes, subst (λ (s : Base). s.next ≡ 2 ^ 63 - 1) back z.0, z.1)) cause,

@@ -159,6 +159,7 @@ fn lost_to(alloc: Global, at: u64, update: Updating, read: u64, found: Option<u6
 }
 
 /// The id of a document, for the store and for both ends of a mark.
+#[derive(Drop)]
 struct Ids {
     key: DocId,
     after: DocId,
