@@ -11,3 +11,4 @@ mod Running
 mod Opening
 pub mod Attempts
 pub mod Rounds
+pub mod Contests

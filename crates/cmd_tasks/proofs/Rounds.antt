@@ -49,7 +49,7 @@ use Rattle.cmd_tasks.proofs.Attempts.{same_some, shown_stands, no_work_since, Gi
 -- ---- what a step is, told or not
 
 falls : (n m : ℕ) → m ≡ n + 1 → m < 4 → tries_rank (4 - m) + (rank_of None + 1) < tries_rank (4 - n)
-falls n m e l = let s : tries_rank (4 - n) ≡ tries_rank (4 - m) + (rank_of None + 2) = ap tries_rank (omega arith) in omega arith
+falls n m e l = let s : 4 - n ≡ suc (4 - m) = omega arith in let r : tries_rank (4 - n) ≡ tries_rank (4 - m) + (rank_of None + 2) = ap tries_rank s in omega arith
 
 takes_steps : (k low high : ℕ) (H H' : List Entry) (u : Updating) (last : Option Tree) (item : Item) (v : Version) (o : Moved) → Made k low high H H' item → IsWanted u.wanted → length u.lost.items < 4 → Takes u item v o → Steps k low high (Choosing u last) H H' o
 takes_steps k low high H H' u last item v (m.Goes i w) made wanted few t = subst (λ (z : Item × State). Steps k low high (Choosing u last) H H' (m.Goes z.0 z.1)) (λ j. (sym t.3 j, sym t.4 j))
@@ -112,9 +112,12 @@ looked_facts base coll f r from (Faulted at before count) h = absurd h
 abbrev rows_or : Option Rows → Rows
 rows_or o = elim o as (λ _. Rows) [ None ↦ [] | Some r ↦ r ]
 
+not_none : {A : Type 0} (a : A) → ◌≡◌ {A = Option A} None (Some a) → ⊥
+not_none a e = cc
+
 shown_stood : (base : Base) (coll : Name) (f : FilterTree) (o : Option Rows) (from : Option Tree) (i : Item) (x : Found) → ((r : Rows) × (o ≡ Some r)) → ascends (rows_or o) ≡ true
     → Looks base coll f (rows_or o) from i → first (seen_by base coll f (rows_or o) i) ≡ Some x → option_and_then (version_of x.id) o ≡ Some (record { tx = x.tx; doc = x.doc })
-shown_stood base coll f None from i x some sorted l e = cc
+shown_stood base coll f None from i x some sorted l e = absurd (not_none some.0 some.1)
 shown_stood base coll f (Some r) from (Looked at after up page) x some sorted l e = shown_stands r f after up x sorted e
 shown_stood base coll f (Some r) from (Wrote at) x some sorted l e = absurd l
 shown_stood base coll f (Some r) from (Lost at read found) x some sorted l e = absurd l
@@ -158,7 +161,7 @@ mark_stops base coll k P W H H' at after up (Lost a read f) error same here is m
 mark_stops base coll k P W H H' at after up (Faulted a b c) error same here is marks writes cause = absurd is
 
 module _ (base : Base) (coll : Name) (k : ℕ) (moment : ℤ) (u : Updating) where
-  abbrev f : FilterTree
+  abbrev pub f : FilterTree
   f = filter_tree u.wanted.filter
 
   -- ---- the listing of a round
@@ -245,7 +248,7 @@ module _ (base : Base) (coll : Name) (k : ℕ) (moment : ℤ) (u : Updating) whe
   -- ---- the attempt: what stands under the chosen id at the end of the history, and who wrote since the look
 
   module _ (H : List Entry) (trace : List Item) (placed : IsPlaced k H trace) (x : Found) (seen : IsSeen base coll k f x (sights H trace)) where
-    look_is : (front : List Item) × (i : Item) × (trace ≡ front ++ i ∷ []) × (seen.look ≡ sight H i)
+    pub look_is : (front : List Item) × (i : Item) × (trace ≡ front ++ i ∷ []) × (seen.look ≡ sight H i)
     look_is = newest_is H trace seen.look seen.earlier seen.newest
 
     pub stood_there : version (replay base (take (point look_is.1) H)) coll x.id ≡ Some (record { tx = x.tx; doc = x.doc })
@@ -269,17 +272,17 @@ module _ (base : Base) (coll : Name) (k : ℕ) (moment : ℤ) (u : Updating) whe
         ∙ another_between touched base coll k H (point look_is.1) x lawful apart (no_work_since k H look_is.0 look_is.1 quiet point_low (subst (IsPlaced k H) look_is.2 placed)) stood_there other
 
   module _ (read : ℕ) (d : Tree) (H : List Entry) (trace : List Item) (placed : IsPlaced k H trace) (lawful : IsJournal base H) (apart : AreApart base.collections) (way : IsUnderWay base coll k moment (Changing u read d) (sights H trace)) where
-    kept : IsChosen base coll k moment u read d (sights H trace)
+    abbrev pub kept : IsChosen base coll k moment u read d (sights H trace)
     kept = way.1
 
-    earlier : List Sight
+    abbrev pub earlier : List Sight
     earlier = sights H trace
 
     -- the attempt may be made: what the keeper holds under that number is the document of the look
     pub fits_now : GivenOnce → IsOld base → (o : Option Version) → version (replay base H) coll (id_of d) ≡ o → IsMadeOfRead (Update u.updates u.moment d) (Some read) o
     fits_now once old None there = tt
     fits_now once old (Some v) there = λ is.
-        let same = still_same H trace placed kept.x kept.seen once lawful apart old v (ap (version (replay base H) coll) kept.same_id ∙ there) (sym (same_some read v.tx is) ∙ sym kept.number) in
+        let same = still_same H trace placed kept.x kept.seen once lawful apart old v (ap (λ (i : Tree). version (replay base H) coll i) kept.same_id ∙ there) (sym (same_some read v.tx is) ∙ sym kept.number) in
         ap (λ (z : Version). apply u.updates z.doc u.moment false) same ∙ subst (λ (n : ℤ). apply u.updates kept.x.doc n false ≡ Ok d) (sym kept.kept.moment_is) kept.makes.0
 
     chooses : (s : Sight) → (IsWon base coll k kept.x (Update u.updates moment d) s ⊎ IsLost base coll k kept.seen.look kept.x s) → IsPartOf base coll k moment (updating u) (s ∷ earlier)

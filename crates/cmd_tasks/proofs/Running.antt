@@ -20,11 +20,11 @@ use Rattle.cmd_tasks.specs.declared.task.Task.{Task}
 use Rattle.cmd_tasks.specs.declared.task.Served.{Served}
 use Rattle.cmd_tasks.specs.declared.trace.Item.{Item}
 use Rattle.cmd_tasks.specs.declared.work.State.{State}
-use Rattle.cmd_tasks.specs.declared.work.State.TheVariants.{Inserting, Selecting, Counting, Done}
+use Rattle.cmd_tasks.specs.declared.work.State.TheVariants.{Inserting, Selecting, Counting, Choosing, Changing, Done}
 use Rattle.cmd_tasks.proofs.Sessions.{session_begins, session_steps, session_ends}
 use Rattle.cmd_tasks.proofs.Standing.{stands_served}
 
-opened_more : (H more : List Entry) → opened_in H ≤ opened_in (H ++ more)
+pub opened_more : (H more : List Entry) → opened_in H ≤ opened_in (H ++ more)
 opened_more [] more = omega arith
 opened_more (Opened k ∷ H) more = omega (arith, opened_more H more)
 opened_more (Created by coll ∷ H) more = opened_more H more
@@ -150,12 +150,16 @@ pub done_more : (s : State) (P Q : Reply → Type 0) → ((r : Reply) → P r �
 done_more (Inserting d) P Q f h = h
 done_more (Selecting w last) P Q f h = h
 done_more (Counting w last n) P Q f h = h
+done_more (Choosing u last) P Q f h = h
+done_more (Changing u read d) P Q f h = h
 done_more (Done r) P Q f h = f r h
 
 done_with : (s : State) (P : Reply → Type 0) → IfDone s P → (r : Reply) × (s ≡ Done r) × P r
 done_with (Inserting d) P h = absurd h
 done_with (Selecting w last) P h = absurd h
 done_with (Counting w last n) P h = absurd h
+done_with (Choosing u last) P h = absurd h
+done_with (Changing u read d) P h = absurd h
 done_with (Done r) P h = (r, refl, h)
 
 -- a task that is done hands back what its session was told

@@ -1,6 +1,6 @@
 -- What a step of the work is, told or not; and how it goes on with a request that is under way.
-use Rattle.std.specs.Prelude.{◌≡◌, ◌⊎◌, ℕ, ℤ, zero, suc, ◌+◌, ◌-◌, ◌<◌, ◌≤◌, List, [], ◌∷◌, ◌++◌, length, map, reverse, Bool, true, false, Option, Some, None, ⊤, IfSome, nat_le, if◌then◌else◌, Vec}
-use Rattle.std_heap.specs.declared.Global.{Global}
+use Rattle.std.specs.Prelude.{◌≡◌, ◌⊎◌, ℕ, ℤ, zero, suc, ◌+◌, ◌-◌, ◌<◌, ◌≤◌, List, [], ◌∷◌, ◌++◌, length, map, reverse, Bool, true, false, Option, Some, None, ⊤, IfSome, nat_le, if◌then◌else◌}
+use Rattle.std.proofs.Common.{Vec, Global}
 use Rattle.std.specs.Option.{ForSome, option_map}
 use Rattle.std.specs.List.{filter}
 use Rattle.outside_io.specs.Causes.{Rose}

@@ -1,8 +1,9 @@
 // The steps of an update: a listing to the first match, and then an attempt on it.
-ghost use Rattle.std.specs.Prelude.{◌≡◌, ◌≢◌, ℕ, ◌+◌, ◌<◌, ◌≤◌, List, Some, None, length, IfOk};
+ghost use Rattle.std.specs.Prelude.{◌≡◌, ◌≢◌, ◌+◌, ◌<◌, ◌≤◌, ◌++◌, ◌∷◌, [], Some, length, IfOk, IfSome};
 ghost use Rattle.shred_cols.specs.Row.{id_of};
 ghost use Rattle.col_keeper.specs.Tables.{KeepsLimits};
 ghost use Rattle.update_ops.specs.declared.fault.UpdateFault.TheVariants as faults;
+ghost use Rattle.reply_env.specs.Messages as errors;
 ghost use Rattle.reply_env.specs.declared.reply.Reply.TheVariants as replies;
 ghost use Rattle.cmd_grammar.specs.Refused.{update_error as error_of};
 ghost use Rattle.store_core.specs.Counts.{opened_in};
@@ -27,6 +28,13 @@ use update_ops::{Applied, UpdateFault, ids_are_kept};
 
 /// So many attempts may be lost.
 const MOST: usize = 4;
+
+/// The reply that so many matched, and so many of them were changed.
+fn updated(matched: u64, modified: u64) -> Reply
+    ensures { result ≡ replies.Updated matched modified }
+{
+    Reply::Updated { matched, modified }
+}
 
 /// The reply where the update is refused on the document.
 fn declined(alloc: Global, fault: UpdateFault) -> Reply
@@ -62,10 +70,7 @@ fn taken(alloc: Global, update: Updating, item: Item, row: &Row) -> Moved
             },
         ) => Moved::Ends {
             item,
-            reply: Reply::Updated {
-                matched: 1,
-                modified: 0,
-            },
+            reply: updated(1, 0),
         },
         Err(fault) => Moved::Ends {
             item,
@@ -88,10 +93,7 @@ fn passed_over(update: Updating, item: Item, last: Option<DocId>) -> Moved
         },
         None => Moved::Ends {
             item,
-            reply: Reply::Updated {
-                matched: 0,
-                modified: 0,
-            },
+            reply: updated(0, 0),
         },
     }
 }
@@ -134,24 +136,53 @@ pub(crate) fn choose<K: Keeper>(
     }
 }
 
+/// The lost attempts with one more.
+fn with_loss(lost: Vec<Loss>, loss: Loss) -> Option<Vec<Loss>>
+    ensures { IfSome result (λ more. more.items ≡ lost.items ++ loss ∷ []) }
+{
+    let mut lost = lost;
+    match lost.push(loss) {
+        Ok(()) => Some(lost),
+        Err(_) => None,
+    }
+}
+
+/// The reply that tells the lost attempts.
+fn conflict(alloc: Global, lost: &[Loss]) -> Reply
+    ensures { Refuses (errors.lost_writes lost.now) result }
+{
+    refuse(alloc, lost_writes(alloc, lost))
+}
+
 /// An attempt was lost: a new round begins, or four were lost.
 fn lost_to(alloc: Global, at: u64, update: Updating, read: u64, found: Option<u64>) -> Moved
     ensures { LosesTo at read found update result }
 {
-    let mut update = update;
     let item = Item::Lost { at, read, found };
-    if update.lost.push(Loss { read, found }).is_err() {
+    let Updating {
+        wanted,
+        updates,
+        moment,
+        lost,
+    } = update;
+    let Some(lost) = with_loss(lost, Loss { read, found }) else {
         return Moved::Ends {
             item,
             reply: Reply::NoMemory { accepted: 0 },
         };
-    }
-    if update.lost.len() >= MOST {
+    };
+    if lost.len() >= MOST {
         return Moved::Ends {
             item,
-            reply: refuse(alloc, lost_writes(alloc, &update.lost)),
+            reply: conflict(alloc, &lost),
         };
     }
+    let update = Updating {
+        wanted,
+        updates,
+        moment,
+        lost,
+    };
     Moved::Goes {
         item,
         state: State::Choosing { update, last: None },
@@ -219,10 +250,7 @@ pub(crate) fn change<K: Keeper>(
     match store.write(alloc, by, coll, &key, Some(read), change) {
         WriteOutcome::Written { at, tx: _ } => Moved::Ends {
             item: Item::Wrote { at },
-            reply: Reply::Updated {
-                matched: 1,
-                modified: 1,
-            },
+            reply: updated(1, 1),
         },
         WriteOutcome::Lost { at, found } => lost_to(alloc, at, update, read, found),
         WriteOutcome::NoCollection { at } => {
