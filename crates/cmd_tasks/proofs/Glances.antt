@@ -67,8 +67,8 @@ wrote_here k low high H H' at tx coll id change before longer here = record {
   records = record { here = here; stands = omega (arith, here); own = ap (λ (b : Bool). cond b (length H ∷ []) []) (eq-eqb k k refl) ∙ ap (λ (n : ℕ). n ∷ []) (sym here) };
 }
 
-pub lost_here : (k low high : ℕ) (H H' : List Entry) (at : ℕ) (found : Option ℕ) → H' ≡ H → at ≡ length H → Made k low high H H' (Lost at 0 found)
-lost_here k low high H H' at found same here = record {
+pub lost_here : (k low high : ℕ) (H H' : List Entry) (at read : ℕ) (found : Option ℕ) → H' ≡ H → at ≡ length H → Made k low high H H' (Lost at read found)
+lost_here k low high H H' at read found same here = record {
   more = [];
   longer = same ∙ sym (append-nil H);
   records = record { here = here; stands = omega (arith, here); own = refl };
@@ -125,6 +125,7 @@ module _ (base : State) (coll : Name) (k : ℕ) where
         shows ∙ ap (map found_row) (sym is.0),
         to_is ∙ sym is.1,
         full end p s up is.1 to_is rows_are from_is,
+        ap ascends rows_are ∙ sorted,
       )
     where
       full : (end' : Bool) → IsPage last 64 page end' → ShowsPage (probe_of f) last r page end' → (up' : Option Tree) → up' ≡ up_of end' page → {to' from' : Option Tree} {r' : Rows} → to' ≡ up_of end' page → r' ≡ r → from' ≡ last

@@ -9,3 +9,6 @@ mod Requests
 mod Standing
 mod Running
 mod Opening
+pub mod Attempts
+pub mod Rounds
+pub mod Contests

@@ -28,7 +28,7 @@ Row = Tree × Version
 
 -- ---- the order of ids
 
-ids_total : IsTotalOrder id_cmp
+pub ids_total : IsTotalOrder id_cmp
 ids_total = then_total (on_total id_tag nat_cmp_total) (then_total (on_total id_text (lists_total nat_cmp_total)) (on_total id_number int_cmp_total))
 
 abbrev pub IsBelow : Tree → Tree → Type 0

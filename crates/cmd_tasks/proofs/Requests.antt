@@ -1,5 +1,5 @@
 -- How each command goes on, or is answered.
-use Rattle.std.proofs.Common.{◌≡◌, ◌≢◌, ℕ, ◌+◌, ◌<◌, ◌≤◌, List, [], ◌∷◌, ◌++◌, map, take, length, true, false, ◌-◌, ◌^◌, Option, Some, None, refl, sym, ap, ◌∙◌, subst, arith, inl, inr, length-append, Vec, Global, leb, ◌⊎◌, ⊎_elim}
+use Rattle.std.proofs.Common.{◌≡◌, ◌≢◌, ℕ, ℤ, ◌+◌, ◌<◌, ◌≤◌, List, [], ◌∷◌, ◌++◌, map, take, length, true, false, ◌-◌, ◌^◌, Option, Some, None, refl, sym, ap, ◌∙◌, subst, arith, inl, inr, length-append, Vec, Global, leb, ◌⊎◌, ⊎_elim}
 use Rattle.std.specs.Prelude.{nat_le, if◌then◌else◌, IfSome, slice_get}
 use Rattle.std.specs.Option.{option_map}
 use Rattle.std.proofs.lemmas.List.{length-map}
@@ -24,7 +24,7 @@ use Rattle.store_core.specs.Journal.{replay}
 use Rattle.store_core.specs.declared.entry.Entry.{Entry}
 use Rattle.store_core.specs.declared.entry.Entry.TheVariants.{Changed, Failed}
 use Rattle.store_core.specs.declared.entry.Change.TheVariants.{Insert}
-use Rattle.cmd_grammar.specs.Commands.{CommandTree, insert_one, find_one, count_documents}
+use Rattle.cmd_grammar.specs.Commands.{CommandTree, insert_one, find_one, count_documents, update_one}
 use Rattle.cmd_tasks.specs.Trace.{Sight, sight, shown, shown_by, IsLook, GoesOn, Looks}
 use Rattle.cmd_tasks.specs.Served.{IsPartOf, Serves, Stops, IsStopped, Marks, IsToWrite, IsInserted, IsTaken, TellsInserted, TellsFound, counted, accepted, one_if_wrote}
 use Rattle.cmd_tasks.specs.Pages.{found_row}
@@ -83,7 +83,7 @@ count_steps k low high H H' w last n n' item page (Some u) wanted h =
 
 pub taken_steps : (k low high : ℕ) (H H' : List Entry) (w : State) (at tx : ℕ) (P : Reply → Type 0) (o : Moved) → H' ≡ H → at ≡ length H → EndsSo (Lost at 0 (Some tx)) P o → Steps k low high w H H' o
 taken_steps k low high H H' w at tx P (m.Goes i s) same here is = absurd is
-taken_steps k low high H H' w at tx P (m.Ends i r) same here is = subst (Made k low high H H') (sym is.0) (lost_here k low high H H' at (Some tx) same here)
+taken_steps k low high H H' w at tx P (m.Ends i r) same here is = subst (Made k low high H H') (sym is.0) (lost_here k low high H H' at 0 (Some tx) same here)
 taken_steps k low high H H' w at tx P m.NoMemory same here is = absurd is
 
 pub marked_steps : (k low high : ℕ) (H H' : List Entry) (w : State) (at : ℕ) (after up : Option Tree) (P : Reply → Type 0) (o : Moved) → H' ≡ H → at ≡ length H → EndsMarked at after up P o → Steps k low high w H H' o
@@ -104,117 +104,8 @@ found_one (Some tx) n = (tx, refl)
 
 -- ---- what it means for the request, where told
 
+-- where a listing stops
 module _ (base : Base) (coll : Name) (k : ℕ) where
-  looks_wrote : (f : FilterTree) (r : Rows) (from : Option Tree) (i : Item) → Looks base coll f r from i → one_if_wrote i ≡ 0
-  looks_wrote f r from (Looked at after up shown) h = refl
-  looks_wrote f r from (Wrote at) h = absurd h
-  looks_wrote f r from (Lost at read found) h = absurd h
-  looks_wrote f r from (Faulted at before count) h = absurd h
-
-  find_accepts : (f : FilterTree) (s : List Sight) → IsPartOf base coll k (find_one f) s → accepted s ≡ 0
-  find_accepts f [] h = refl
-  find_accepts f (s ∷ earlier) h = let a = find_accepts f earlier h.0 in let b = looks_wrote f _ _ s.item h.2.1 in omega arith
-
-  count_accepts : (f : FilterTree) (s : List Sight) → IsPartOf base coll k (count_documents f) s → accepted s ≡ 0
-  count_accepts f [] h = refl
-  count_accepts f (s ∷ earlier) h = let a = count_accepts f earlier h.0 in let b = looks_wrote f _ _ s.item h.2.1 in omega arith
-
-  accepts : (c : CommandTree) (s : List Sight) → IsBegun base coll k c s → accepted s ≡ 0
-  accepts (insert_one d) s h = ap accepted h.1
-  accepts (find_one f) s h = find_accepts f s h.0
-  accepts (count_documents f) s h = count_accepts f s h.0
-
-  -- a request that is under way may end for want of memory
-  pub cut_off : (c : CommandTree) (s : List Sight) → IsBegun base coll k c s → Serves base coll k c s (NoMemory 0)
-  cut_off c s h = inr (inr (inl h.0, ap NoMemory (sym (accepts c s h))))
-
-  stops_wrote : (marks : Option Tree → Option Tree → Type 0) (to_write : Type 0) (i : Item) (s : Sight) (error : ErrorItem) → Stops base coll k marks to_write i s error → one_if_wrote i ≡ 0
-  stops_wrote marks to_write (Looked at after up shown) s error h = refl
-  stops_wrote marks to_write (Wrote at) s error h = absurd h
-  stops_wrote marks to_write (Lost at read found) s error h = absurd h
-  stops_wrote marks to_write (Faulted at before count) s error h = refl
-
-  -- a request that stops at an item, whether its error was told or memory was wanting
-  pub stopped_serves : (c : CommandTree) (earlier : List Sight) (s : Sight) (error : ErrorItem) (reply : Reply) → IsBegun base coll k c earlier
-      → Stops base coll k (Marks base coll k c earlier) (IsToWrite base coll k c earlier) s.item s error → Refuses error reply → Serves base coll k c (s ∷ earlier) reply
-  stopped_serves c earlier s error reply begun stops refuses = ⊎_elim
-      (λ (r : IsRefusal error reply). inr (inl (error, (begun.0, begun.1, stops), r)))
-      (λ (e : reply ≡ NoMemory 0). let a = accepts c earlier begun in let b = stops_wrote _ _ s.item s error stops in let z : 0 ≡ one_if_wrote s.item + accepted earlier = omega arith in inr (inr (inr (error, (begun.0, begun.1, stops)), e ∙ ap NoMemory z)))
-      refuses
-
-  pub failed_serves : (c : CommandTree) (earlier : List Sight) (H H' : List Entry) (at before count : ℕ) (reply : Reply) → IsBegun base coll k c earlier → H' ≡ H ++ Failed k before count ∷ [] → at ≡ length H
-      → Refuses (errors.store_fault before count) reply → Serves base coll k c (sight H' (Faulted at before count) ∷ earlier) reply
-  failed_serves c earlier H H' at before count reply begun longer here refuses = stopped_serves c earlier (sight H' (Faulted at before count)) (errors.store_fault before count) reply begun (saw_entry H H' (Failed k before count) at longer here, refl) refuses
-
-  -- ---- insertOne
-
-  pub insert_serves : (d : Tree) (earlier : List Sight) (H H' : List Entry) (at tx : ℕ) (reply : Reply) → IsBegun base coll k (insert_one d) earlier → H' ≡ H ++ Changed k coll (id_of d) (Insert d) None tx ∷ [] → at ≡ length H
-      → number_at (replay base H) coll (id_of d) ≡ None → TellsInserted (id_of d) reply → Serves base coll k (insert_one d) (sight H' (Wrote at) ∷ earlier) reply
-  insert_serves d earlier H H' at tx reply begun longer here absent tells =
-      let e : Entry = Changed k coll (id_of d) (Insert d) None tx in
-      let past = saw_before H H' e at longer here in
-      let made : IsInserted base coll k d (sight H' (Wrote at)) = record {
-        absent = ap (λ (l : List Entry). number_at (replay base l) coll (id_of d)) past ∙ absent;
-        wrote = (ap Wrote (here ∙ sym (ap length past)), (tx, saw_entry H H' e at longer here));
-      } in
-      inl ((begun.0, begun.1, inl made), inl (made, tells))
-
-  -- the write was accepted
-  pub written_leads : (d : Value) (doc key : Tree) (earlier : List Sight) (H H' : List Entry) (at tx : ℕ) (reply : Reply) → tree d ≡ doc → key ≡ id_of doc → IsUnderWay base coll k (Inserting d) earlier
-      → H' ≡ H ++ Changed k coll key (Insert doc) None tx ∷ [] → at ≡ length H → number_at (replay base H) coll key ≡ None → TellsInserted (id_of doc) reply → Leads base coll k H' (Inserting d) earlier (m.Ends (Wrote at) reply)
-  written_leads d doc key earlier H H' at tx reply d_is key_is way longer here absent tells =
-      let id_is : key ≡ id_of (tree d) = key_is ∙ ap id_of (sym d_is) in
-      insert_serves (tree d) earlier H H' at tx reply way.0 (longer ∙ (λ i. H ++ Changed k coll (id_is i) (Insert (sym d_is i)) None tx ∷ [])) here
-      (subst (λ (t : Tree). number_at (replay base H) coll t ≡ None) id_is absent) (subst (λ (t : Tree). TellsInserted (id_of t) reply) (sym d_is) tells)
-
-  taken_serves : (d : Tree) (earlier : List Sight) (s : Sight) (tx : ℕ) (reply : Reply) → IsBegun base coll k (insert_one d) earlier → IsTaken base coll k d tx s
-      → Refuses (errors.already_exists (id_of d) tx) reply → Serves base coll k (insert_one d) (s ∷ earlier) reply
-  taken_serves d earlier s tx reply begun taken refuses = ⊎_elim
-      (λ (r : IsRefusal (errors.already_exists (id_of d) tx) reply). inl ((begun.0, begun.1, inr (tx, taken)), inr (tx, taken, r)))
-      (λ (e : reply ≡ NoMemory 0). let a = accepts (insert_one d) earlier begun in let b : one_if_wrote s.item ≡ 0 = ap one_if_wrote taken.item in let z : 0 ≡ one_if_wrote s.item + accepted earlier = omega arith in
-      inr (inr (inl (begun.0, begun.1, inr (tx, taken)), e ∙ ap NoMemory z)))
-      refuses
-
-  pub lost_leads : (d : Value) (earlier : List Sight) (H H' : List Entry) (at tx : ℕ) (found : Option ℕ) (o : Moved) → IsUnderWay base coll k (Inserting d) earlier → H' ≡ H → at ≡ length H
-      → found ≡ Some tx → number_at (replay base H) coll (id_of (tree d)) ≡ found → EndsSo (Lost at 0 (Some tx)) (Refuses (errors.already_exists (id_of (tree d)) tx)) o → Leads base coll k H' (Inserting d) earlier o
-  lost_leads d earlier H H' at tx found (m.Goes i w) way same here is there o_is = absurd o_is
-  lost_leads d earlier H H' at tx found (m.Ends i r) way same here is there o_is =
-      let past = saw H H' at same here in
-      let taken : IsTaken base coll k (tree d) tx (sight H' (Lost at 0 (Some tx))) = record {
-        item = ap (λ n. Lost n 0 (Some tx)) (here ∙ sym (ap length past));
-        there = ap (λ (l : List Entry). number_at (replay base l) coll (id_of (tree d))) past ∙ there ∙ is;
-      } in
-      subst (λ z. Serves base coll k (insert_one (tree d)) (sight H' z ∷ earlier) r) (sym o_is.0) (taken_serves (tree d) earlier (sight H' (Lost at 0 (Some tx))) tx r way.0 taken o_is.1)
-  lost_leads d earlier H H' at tx found m.NoMemory way same here is there o_is = absurd o_is
-
-  -- a mark in the place of the write
-  pub mark_serves : (d : Tree) (earlier : List Sight) (H H' : List Entry) (at : ℕ) (item : Item) (error : ErrorItem) (reply : Reply) → IsBegun base coll k (insert_one d) earlier → H' ≡ H → at ≡ length H
-      → IsLooked item at (Some (id_of d)) (Some (id_of d)) [] → (IsGone coll (replay base H) × (error ≡ errors.no_collection coll)) ⊎ (((replay base H).next ≡ 2 ^ 63 - 1) × (error ≡ errors.versions_spent))
-      → Refuses error reply → Serves base coll k (insert_one d) (sight H' item ∷ earlier) reply
-  mark_serves d earlier H H' at (Looked a from to pairs) error reply begun same here is cause refuses =
-      let past : take a H' ≡ H = saw H H' a same (is.0 ∙ here) in
-      let back : replay base H ≡ replay base (take a H') = ap (replay base) (sym past) in
-      stopped_serves (insert_one d) earlier (sight H' (Looked a from to pairs)) error reply begun
-      ((is.1, is.2), is.3, ⊎_elim (λ z. inl (subst (IsGone coll) back z.0, z.1)) (λ z. inr (tt, subst (λ (s : Base). s.next ≡ 2 ^ 63 - 1) back z.0, z.1)) cause) refuses
-  mark_serves d earlier H H' at (Wrote a) error reply begun same here is cause refuses = absurd is
-  mark_serves d earlier H H' at (Lost a read f) error reply begun same here is cause refuses = absurd is
-  mark_serves d earlier H H' at (Faulted a b c) error reply begun same here is cause refuses = absurd is
-
-  pub marked_leads : (d : Value) (earlier : List Sight) (H H' : List Entry) (at : ℕ) (key twin : Tree) (error : ErrorItem) (o : Moved) → key ≡ id_of (tree d) → twin ≡ id_of (tree d) → IsUnderWay base coll k (Inserting d) earlier → H' ≡ H → at ≡ length H
-      → (IsGone coll (replay base H) × (error ≡ errors.no_collection coll)) ⊎ (((replay base H).next ≡ 2 ^ 63 - 1) × (error ≡ errors.versions_spent))
-      → EndsMarked at (Some key) (Some twin) (Refuses error) o → Leads base coll k H' (Inserting d) earlier o
-  marked_leads d earlier H H' at key twin error (m.Goes i w) key_is twin_is way same here cause is = absurd is
-  marked_leads d earlier H H' at key twin error (m.Ends i r) key_is twin_is way same here cause is =
-      mark_serves (tree d) earlier H H' at i error r way.0 same here (subst (λ (t : Tree). IsLooked i at (Some (id_of (tree d))) (Some t) []) twin_is (subst (λ (t : Tree). IsLooked i at (Some t) (Some twin) []) key_is is.0)) cause is.1
-  marked_leads d earlier H H' at key twin error m.NoMemory key_is twin_is way same here cause is = absurd is
-
-  pub failed_leads : (d : Value) (earlier : List Sight) (H H' : List Entry) (at before count : ℕ) (o : Moved) → IsUnderWay base coll k (Inserting d) earlier → H' ≡ H ++ Failed k before count ∷ [] → at ≡ length H
-      → EndsSo (Faulted at before count) (Refuses (errors.store_fault before count)) o → Leads base coll k H' (Inserting d) earlier o
-  failed_leads d earlier H H' at before count (m.Goes i w) way longer here is = absurd is
-  failed_leads d earlier H H' at before count (m.Ends i r) way longer here is =
-      subst (λ (z : Item). Serves base coll k (insert_one (tree d)) (sight H' z ∷ earlier) r) (sym is.0) (failed_serves (insert_one (tree d)) earlier H H' at before count r way.0 longer here is.1)
-  failed_leads d earlier H H' at before count m.NoMemory way longer here is = absurd is
-
   -- a listing at a point where the collection doesn't live
   pub gone_stops : (last : Option Tree) (H H' : List Entry) (at : ℕ) (item : Item) (reply : Reply) → H' ≡ H → at ≡ length H → IsLooked item at last None [] → IsGone coll (replay base H)
       → Refuses (errors.no_collection coll) reply → StopsSo base coll k H' last item reply
@@ -242,6 +133,118 @@ module _ (base : Base) (coll : Name) (k : ℕ) where
       subst (λ (i : Item). StopsSo base coll k H' last i r) (sym is.0) (fault_stops last H H' at before count r longer here is.1)
   fault_sees last H H' f at before count g.NoMemory longer here is = absurd is
 
+module _ (base : Base) (coll : Name) (k : ℕ) (moment : ℤ) where
+  looks_wrote : (f : FilterTree) (r : Rows) (from : Option Tree) (i : Item) → Looks base coll f r from i → one_if_wrote i ≡ 0
+  looks_wrote f r from (Looked at after up shown) h = refl
+  looks_wrote f r from (Wrote at) h = absurd h
+  looks_wrote f r from (Lost at read found) h = absurd h
+  looks_wrote f r from (Faulted at before count) h = absurd h
+
+  find_accepts : (f : FilterTree) (s : List Sight) → IsPartOf base coll k moment (find_one f) s → accepted s ≡ 0
+  find_accepts f [] h = refl
+  find_accepts f (s ∷ earlier) h = let a = find_accepts f earlier h.0 in let b = looks_wrote f _ _ s.item h.2.1 in omega arith
+
+  count_accepts : (f : FilterTree) (s : List Sight) → IsPartOf base coll k moment (count_documents f) s → accepted s ≡ 0
+  count_accepts f [] h = refl
+  count_accepts f (s ∷ earlier) h = let a = count_accepts f earlier h.0 in let b = looks_wrote f _ _ s.item h.2.1 in omega arith
+
+  accepts : (c : CommandTree) (s : List Sight) → IsBegun base coll k moment c s → accepted s ≡ 0
+  accepts (insert_one d) s h = ap accepted h.1
+  accepts (find_one f) s h = find_accepts f s h.0
+  accepts (count_documents f) s h = count_accepts f s h.0
+  accepts (update_one f u) s h = h.1.0
+
+  -- a request that is under way may end for want of memory
+  pub cut_off : (c : CommandTree) (s : List Sight) → IsBegun base coll k moment c s → Serves base coll k moment c s (NoMemory 0)
+  cut_off c s h = inr (inr (inl h.0, ap NoMemory (sym (accepts c s h))))
+
+  stops_wrote : (marks : Option Tree → Option Tree → Type 0) (to_write : Type 0) (i : Item) (s : Sight) (error : ErrorItem) → Stops base coll k marks to_write i s error → one_if_wrote i ≡ 0
+  stops_wrote marks to_write (Looked at after up shown) s error h = refl
+  stops_wrote marks to_write (Wrote at) s error h = absurd h
+  stops_wrote marks to_write (Lost at read found) s error h = absurd h
+  stops_wrote marks to_write (Faulted at before count) s error h = refl
+
+  -- a request that stops at an item, whether its error was told or memory was wanting
+  pub stopped_serves : (c : CommandTree) (earlier : List Sight) (s : Sight) (error : ErrorItem) (reply : Reply) → IsBegun base coll k moment c earlier
+      → Stops base coll k (Marks base coll k c earlier) (IsToWrite base coll k c earlier) s.item s error → Refuses error reply → Serves base coll k moment c (s ∷ earlier) reply
+  stopped_serves c earlier s error reply begun stops refuses = ⊎_elim
+      (λ (r : IsRefusal error reply). inr (inl (error, (begun.0, begun.1, stops), r)))
+      (λ (e : reply ≡ NoMemory 0). let a = accepts c earlier begun in let b = stops_wrote _ _ s.item s error stops in let z : 0 ≡ one_if_wrote s.item + accepted earlier = omega arith in inr (inr (inr (error, (begun.0, begun.1, stops)), e ∙ ap NoMemory z)))
+      refuses
+
+  pub failed_serves : (c : CommandTree) (earlier : List Sight) (H H' : List Entry) (at before count : ℕ) (reply : Reply) → IsBegun base coll k moment c earlier → H' ≡ H ++ Failed k before count ∷ [] → at ≡ length H
+      → Refuses (errors.store_fault before count) reply → Serves base coll k moment c (sight H' (Faulted at before count) ∷ earlier) reply
+  failed_serves c earlier H H' at before count reply begun longer here refuses = stopped_serves c earlier (sight H' (Faulted at before count)) (errors.store_fault before count) reply begun (saw_entry H H' (Failed k before count) at longer here, refl) refuses
+
+  -- ---- insertOne
+
+  pub insert_serves : (d : Tree) (earlier : List Sight) (H H' : List Entry) (at tx : ℕ) (reply : Reply) → IsBegun base coll k moment (insert_one d) earlier → H' ≡ H ++ Changed k coll (id_of d) (Insert d) None tx ∷ [] → at ≡ length H
+      → number_at (replay base H) coll (id_of d) ≡ None → TellsInserted (id_of d) reply → Serves base coll k moment (insert_one d) (sight H' (Wrote at) ∷ earlier) reply
+  insert_serves d earlier H H' at tx reply begun longer here absent tells =
+      let e : Entry = Changed k coll (id_of d) (Insert d) None tx in
+      let past = saw_before H H' e at longer here in
+      let made : IsInserted base coll k d (sight H' (Wrote at)) = record {
+        absent = ap (λ (l : List Entry). number_at (replay base l) coll (id_of d)) past ∙ absent;
+        wrote = (ap Wrote (here ∙ sym (ap length past)), (tx, saw_entry H H' e at longer here));
+      } in
+      inl ((begun.0, begun.1, inl made), inl (made, tells))
+
+  -- the write was accepted
+  pub written_leads : (d : Value) (doc key : Tree) (earlier : List Sight) (H H' : List Entry) (at tx : ℕ) (reply : Reply) → tree d ≡ doc → key ≡ id_of doc → IsUnderWay base coll k moment (Inserting d) earlier
+      → H' ≡ H ++ Changed k coll key (Insert doc) None tx ∷ [] → at ≡ length H → number_at (replay base H) coll key ≡ None → TellsInserted (id_of doc) reply → Leads base coll k moment H' (Inserting d) earlier (m.Ends (Wrote at) reply)
+  written_leads d doc key earlier H H' at tx reply d_is key_is way longer here absent tells =
+      let id_is : key ≡ id_of (tree d) = key_is ∙ ap id_of (sym d_is) in
+      insert_serves (tree d) earlier H H' at tx reply way.0 (longer ∙ (λ i. H ++ Changed k coll (id_is i) (Insert (sym d_is i)) None tx ∷ [])) here
+      (subst (λ (t : Tree). number_at (replay base H) coll t ≡ None) id_is absent) (subst (λ (t : Tree). TellsInserted (id_of t) reply) (sym d_is) tells)
+
+  taken_serves : (d : Tree) (earlier : List Sight) (s : Sight) (tx : ℕ) (reply : Reply) → IsBegun base coll k moment (insert_one d) earlier → IsTaken base coll k d tx s
+      → Refuses (errors.already_exists (id_of d) tx) reply → Serves base coll k moment (insert_one d) (s ∷ earlier) reply
+  taken_serves d earlier s tx reply begun taken refuses = ⊎_elim
+      (λ (r : IsRefusal (errors.already_exists (id_of d) tx) reply). inl ((begun.0, begun.1, inr (tx, taken)), inr (tx, taken, r)))
+      (λ (e : reply ≡ NoMemory 0). let a = accepts (insert_one d) earlier begun in let b : one_if_wrote s.item ≡ 0 = ap one_if_wrote taken.item in let z : 0 ≡ one_if_wrote s.item + accepted earlier = omega arith in
+      inr (inr (inl (begun.0, begun.1, inr (tx, taken)), e ∙ ap NoMemory z)))
+      refuses
+
+  pub lost_leads : (d : Value) (earlier : List Sight) (H H' : List Entry) (at tx : ℕ) (found : Option ℕ) (o : Moved) → IsUnderWay base coll k moment (Inserting d) earlier → H' ≡ H → at ≡ length H
+      → found ≡ Some tx → number_at (replay base H) coll (id_of (tree d)) ≡ found → EndsSo (Lost at 0 (Some tx)) (Refuses (errors.already_exists (id_of (tree d)) tx)) o → Leads base coll k moment H' (Inserting d) earlier o
+  lost_leads d earlier H H' at tx found (m.Goes i w) way same here is there o_is = absurd o_is
+  lost_leads d earlier H H' at tx found (m.Ends i r) way same here is there o_is =
+      let past = saw H H' at same here in
+      let taken : IsTaken base coll k (tree d) tx (sight H' (Lost at 0 (Some tx))) = record {
+        item = ap (λ n. Lost n 0 (Some tx)) (here ∙ sym (ap length past));
+        there = ap (λ (l : List Entry). number_at (replay base l) coll (id_of (tree d))) past ∙ there ∙ is;
+      } in
+      subst (λ z. Serves base coll k moment (insert_one (tree d)) (sight H' z ∷ earlier) r) (sym o_is.0) (taken_serves (tree d) earlier (sight H' (Lost at 0 (Some tx))) tx r way.0 taken o_is.1)
+  lost_leads d earlier H H' at tx found m.NoMemory way same here is there o_is = absurd o_is
+
+  -- a mark in the place of the write
+  pub mark_serves : (d : Tree) (earlier : List Sight) (H H' : List Entry) (at : ℕ) (item : Item) (error : ErrorItem) (reply : Reply) → IsBegun base coll k moment (insert_one d) earlier → H' ≡ H → at ≡ length H
+      → IsLooked item at (Some (id_of d)) (Some (id_of d)) [] → (IsGone coll (replay base H) × (error ≡ errors.no_collection coll)) ⊎ (((replay base H).next ≡ 2 ^ 63 - 1) × (error ≡ errors.versions_spent))
+      → Refuses error reply → Serves base coll k moment (insert_one d) (sight H' item ∷ earlier) reply
+  mark_serves d earlier H H' at (Looked a from to pairs) error reply begun same here is cause refuses =
+      let past : take a H' ≡ H = saw H H' a same (is.0 ∙ here) in
+      let back : replay base H ≡ replay base (take a H') = ap (replay base) (sym past) in
+      stopped_serves (insert_one d) earlier (sight H' (Looked a from to pairs)) error reply begun
+      ((is.1, is.2), is.3, ⊎_elim (λ z. inl (subst (IsGone coll) back z.0, z.1)) (λ z. inr (tt, subst (λ (s : Base). s.next ≡ 2 ^ 63 - 1) back z.0, z.1)) cause) refuses
+  mark_serves d earlier H H' at (Wrote a) error reply begun same here is cause refuses = absurd is
+  mark_serves d earlier H H' at (Lost a read f) error reply begun same here is cause refuses = absurd is
+  mark_serves d earlier H H' at (Faulted a b c) error reply begun same here is cause refuses = absurd is
+
+  pub marked_leads : (d : Value) (earlier : List Sight) (H H' : List Entry) (at : ℕ) (key twin : Tree) (error : ErrorItem) (o : Moved) → key ≡ id_of (tree d) → twin ≡ id_of (tree d) → IsUnderWay base coll k moment (Inserting d) earlier → H' ≡ H → at ≡ length H
+      → (IsGone coll (replay base H) × (error ≡ errors.no_collection coll)) ⊎ (((replay base H).next ≡ 2 ^ 63 - 1) × (error ≡ errors.versions_spent))
+      → EndsMarked at (Some key) (Some twin) (Refuses error) o → Leads base coll k moment H' (Inserting d) earlier o
+  marked_leads d earlier H H' at key twin error (m.Goes i w) key_is twin_is way same here cause is = absurd is
+  marked_leads d earlier H H' at key twin error (m.Ends i r) key_is twin_is way same here cause is =
+      mark_serves (tree d) earlier H H' at i error r way.0 same here (subst (λ (t : Tree). IsLooked i at (Some (id_of (tree d))) (Some t) []) twin_is (subst (λ (t : Tree). IsLooked i at (Some t) (Some twin) []) key_is is.0)) cause is.1
+  marked_leads d earlier H H' at key twin error m.NoMemory key_is twin_is way same here cause is = absurd is
+
+  pub failed_leads : (d : Value) (earlier : List Sight) (H H' : List Entry) (at before count : ℕ) (o : Moved) → IsUnderWay base coll k moment (Inserting d) earlier → H' ≡ H ++ Failed k before count ∷ [] → at ≡ length H
+      → EndsSo (Faulted at before count) (Refuses (errors.store_fault before count)) o → Leads base coll k moment H' (Inserting d) earlier o
+  failed_leads d earlier H H' at before count (m.Goes i w) way longer here is = absurd is
+  failed_leads d earlier H H' at before count (m.Ends i r) way longer here is =
+      subst (λ (z : Item). Serves base coll k moment (insert_one (tree d)) (sight H' z ∷ earlier) r) (sym is.0) (failed_serves (insert_one (tree d)) earlier H H' at before count r way.0 longer here is.1)
+  failed_leads d earlier H H' at before count m.NoMemory way longer here is = absurd is
+
   -- ---- listings
 
   none_shown : (f : FilterTree) (sights : List Sight) → GoesOn base coll f 1 sights → shown base coll f sights ≡ []
@@ -252,22 +255,22 @@ module _ (base : Base) (coll : Name) (k : ℕ) where
       empty [] l = refl
       empty (x ∷ xs) l = absurd (omega arith)
 
-  pub select_ended : (w : Wanted) (last : Option Tree) (H' : List Entry) (earlier : List Sight) (item : Item) (r : Reply) → IsUnderWay base coll k (Selecting w last) earlier → StopsSo base coll k H' last item r
-      → Serves base coll k (find_one (filter_tree w.filter)) (sight H' item ∷ earlier) r
+  pub select_ended : (w : Wanted) (last : Option Tree) (H' : List Entry) (earlier : List Sight) (item : Item) (r : Reply) → IsUnderWay base coll k moment (Selecting w last) earlier → StopsSo base coll k H' last item r
+      → Serves base coll k moment (find_one (filter_tree w.filter)) (sight H' item ∷ earlier) r
   select_ended w last H' earlier item r way stops = stopped_serves (find_one (filter_tree w.filter)) earlier (sight H' item) stops.0 r way.0
       (subst (λ (l : Option Tree). Stops base coll k (λ after up. (after ≡ l) × (up ≡ None)) ⊥ item (sight H' item) stops.0) way.1 stops.1) stops.2
 
-  pub count_ended : (w : Wanted) (last : Option Tree) (n : ℕ) (H' : List Entry) (earlier : List Sight) (item : Item) (r : Reply) → IsUnderWay base coll k (Counting w last n) earlier → StopsSo base coll k H' last item r
-      → Serves base coll k (count_documents (filter_tree w.filter)) (sight H' item ∷ earlier) r
+  pub count_ended : (w : Wanted) (last : Option Tree) (n : ℕ) (H' : List Entry) (earlier : List Sight) (item : Item) (r : Reply) → IsUnderWay base coll k moment (Counting w last n) earlier → StopsSo base coll k H' last item r
+      → Serves base coll k moment (count_documents (filter_tree w.filter)) (sight H' item ∷ earlier) r
   count_ended w last n H' earlier item r way stops = stopped_serves (count_documents (filter_tree w.filter)) earlier (sight H' item) stops.0 r way.0
       (subst (λ (l : Option Tree). Stops base coll k (λ after up. (after ≡ l) × (up ≡ None)) ⊥ item (sight H' item) stops.0) way.1.0 stops.1) stops.2
 
-  found_serves : (f : FilterTree) (s : Sight) (earlier : List Sight) (d : Option Tree) (r : Reply) → IsPartOf base coll k (find_one f) (s ∷ earlier)
-      → (TellsFound d r → Serves base coll k (find_one f) (s ∷ earlier) r) → Finds d r → Serves base coll k (find_one f) (s ∷ earlier) r
+  found_serves : (f : FilterTree) (s : Sight) (earlier : List Sight) (d : Option Tree) (r : Reply) → IsPartOf base coll k moment (find_one f) (s ∷ earlier)
+      → (TellsFound d r → Serves base coll k moment (find_one f) (s ∷ earlier) r) → Finds d r → Serves base coll k moment (find_one f) (s ∷ earlier) r
   found_serves f s earlier d r part told finds = ⊎_elim told (λ e. inr (inr (inl part, e ∙ ap NoMemory (sym (find_accepts f (s ∷ earlier) part))))) finds
 
-  pub select_leads : (w : Wanted) (last : Option Tree) (H' : List Entry) (earlier : List Sight) (item : Item) (page : Vec Version Global) (rows : List Version) (up : Option Tree) (o : Moved) → page.items ≡ rows → IsUnderWay base coll k (Selecting w last) earlier
-      → Sees base coll k H' (filter_tree w.filter) last (g.Shown item page up) → Selects w item rows up o → Leads base coll k H' (Selecting w last) earlier o
+  pub select_leads : (w : Wanted) (last : Option Tree) (H' : List Entry) (earlier : List Sight) (item : Item) (page : Vec Version Global) (rows : List Version) (up : Option Tree) (o : Moved) → page.items ≡ rows → IsUnderWay base coll k moment (Selecting w last) earlier
+      → Sees base coll k H' (filter_tree w.filter) last (g.Shown item page up) → Selects w item rows up o → Leads base coll k moment H' (Selecting w last) earlier o
   select_leads w last H' earlier item page rows up o are way sees is = parts rows up o are sees part all is
     where
       f : FilterTree
@@ -276,26 +279,26 @@ module _ (base : Base) (coll : Name) (k : ℕ) where
       s : Sight
       s = sight H' item
 
-      part : IsPartOf base coll k (find_one f) (s ∷ earlier)
+      part : IsPartOf base coll k moment (find_one f) (s ∷ earlier)
       part = (way.0.0, way.0.1, subst (λ (l : Option Tree). IsLook base coll f l s) way.1 sees.0)
 
       all : shown base coll f (s ∷ earlier) ≡ map found_row rows
       all = (λ i. none_shown f earlier way.0.1 i ++ sees.1 i) ∙ ap (map found_row) are
 
-      parts : (rows' : List Version) (up' : Option Tree) (o' : Moved) → page.items ≡ rows' → Sees base coll k H' f last (g.Shown item page up') → IsPartOf base coll k (find_one f) (s ∷ earlier) → shown base coll f (s ∷ earlier) ≡ map found_row rows'
-          → Selects w item rows' up' o' → Leads base coll k H' (Selecting w last) earlier o'
+      parts : (rows' : List Version) (up' : Option Tree) (o' : Moved) → page.items ≡ rows' → Sees base coll k H' f last (g.Shown item page up') → IsPartOf base coll k moment (find_one f) (s ∷ earlier) → shown base coll f (s ∷ earlier) ≡ map found_row rows'
+          → Selects w item rows' up' o' → Leads base coll k moment H' (Selecting w last) earlier o'
       parts (v ∷ vs) up' (m.Goes i z) a e p q h = absurd h
-      parts (v ∷ vs) up' (m.Ends i r) a e p q h = subst (λ x. Serves base coll k (find_one f) (sight H' x ∷ earlier) r) (sym h.0)
+      parts (v ∷ vs) up' (m.Ends i r) a e p q h = subst (λ x. Serves base coll k moment (find_one f) (sight H' x ∷ earlier) r) (sym h.0)
           (found_serves f s earlier (Some v.doc) r p (λ t. inl (p, (inr (omega (arith, ap length q)), subst (λ d. TellsFound d r) (sym (ap (λ l. option_map (λ x. x.doc) (first l)) q)) t))) h.1)
       parts (v ∷ vs) up' m.NoMemory a e p q h = absurd h
       parts [] None (m.Goes i z) a e p q h = absurd h
-      parts [] None (m.Ends i r) a e p q h = subst (λ x. Serves base coll k (find_one f) (sight H' x ∷ earlier) r) (sym h.0)
+      parts [] None (m.Ends i r) a e p q h = subst (λ x. Serves base coll k moment (find_one f) (sight H' x ∷ earlier) r) (sym h.0)
           (found_serves f s earlier None r p (λ t. inl (p, (inl e.2, subst (λ d. TellsFound d r) (sym (ap (λ l. option_map (λ x. x.doc) (first l)) q)) t))) h.1)
       parts [] None m.NoMemory a e p q h = absurd h
-      parts [] (Some u) o' a e p q h = subst (Leads base coll k H' (Selecting w last) earlier) (sym h) ((p, (e.3, omega (arith, ap length q))), sym e.2)
+      parts [] (Some u) o' a e p q h = subst (Leads base coll k moment H' (Selecting w last) earlier) (sym h) ((p, (e.3, omega (arith, ap length q))), sym e.2)
 
-  pub count_leads : (w : Wanted) (last : Option Tree) (n n' : ℕ) (H' : List Entry) (earlier : List Sight) (item : Item) (page : Vec Version Global) (up : Option Tree) → n' ≡ n + length page.items → IsUnderWay base coll k (Counting w last n) earlier
-      → Sees base coll k H' (filter_tree w.filter) last (g.Shown item page up) → Leads base coll k H' (Counting w last n) earlier (count_to w item n' up)
+  pub count_leads : (w : Wanted) (last : Option Tree) (n n' : ℕ) (H' : List Entry) (earlier : List Sight) (item : Item) (page : Vec Version Global) (up : Option Tree) → n' ≡ n + length page.items → IsUnderWay base coll k moment (Counting w last n) earlier
+      → Sees base coll k H' (filter_tree w.filter) last (g.Shown item page up) → Leads base coll k moment H' (Counting w last n) earlier (count_to w item n' up)
   count_leads w last n n' H' earlier item page up sum way sees = parts up sees (way.0.0, way.0.1, subst (λ (l : Option Tree). IsLook base coll f l s) way.1.0 sees.0) all
     where
       f : FilterTree
@@ -307,10 +310,10 @@ module _ (base : Base) (coll : Name) (k : ℕ) where
       all : n' ≡ length (shown base coll f (s ∷ earlier))
       all = let a = length-append (shown base coll f earlier) (shown_by base coll f s) in let b = ap length sees.1 in let c = length-map page.items found_row in let d = way.1.1 in omega arith
 
-      parts : (up' : Option Tree) → Sees base coll k H' f last (g.Shown item page up') → IsPartOf base coll k (count_documents f) (s ∷ earlier) → n' ≡ length (shown base coll f (s ∷ earlier))
-          → Leads base coll k H' (Counting w last n) earlier (count_to w item n' up')
+      parts : (up' : Option Tree) → Sees base coll k H' f last (g.Shown item page up') → IsPartOf base coll k moment (count_documents f) (s ∷ earlier) → n' ≡ length (shown base coll f (s ∷ earlier))
+          → Leads base coll k moment H' (Counting w last n) earlier (count_to w item n' up')
       parts None z part all' = inl (part, (inl z.2, ap counted all'))
-      parts (Some u) z part all' = elim (nat_le 1001 n') as (λ t. nat_le 1001 n' ≡ t → Leads base coll k H' (Counting w last n) earlier (if t then m.Ends item (counted n') else m.Goes item (Counting w (Some u) n'))) [
+      parts (Some u) z part all' = elim (nat_le 1001 n') as (λ t. nat_le 1001 n' ≡ t → Leads base coll k moment H' (Counting w last n) earlier (if t then m.Ends item (counted n') else m.Goes item (Counting w (Some u) n'))) [
         | true ↦ λ e. inl (part, (inr (let l = leb-true 1001 n' e in omega arith), ap counted all'))
         | false ↦ λ e. ((part, (z.3, let l = few n' e (leb_tells 1001 n') in omega arith)), (sym z.2, all'))
       ] refl

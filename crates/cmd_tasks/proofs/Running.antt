@@ -20,11 +20,11 @@ use Rattle.cmd_tasks.specs.declared.task.Task.{Task}
 use Rattle.cmd_tasks.specs.declared.task.Served.{Served}
 use Rattle.cmd_tasks.specs.declared.trace.Item.{Item}
 use Rattle.cmd_tasks.specs.declared.work.State.{State}
-use Rattle.cmd_tasks.specs.declared.work.State.TheVariants.{Inserting, Selecting, Counting, Done}
+use Rattle.cmd_tasks.specs.declared.work.State.TheVariants.{Inserting, Selecting, Counting, Choosing, Changing, Done}
 use Rattle.cmd_tasks.proofs.Sessions.{session_begins, session_steps, session_ends}
 use Rattle.cmd_tasks.proofs.Standing.{stands_served}
 
-opened_more : (H more : List Entry) → opened_in H ≤ opened_in (H ++ more)
+pub opened_more : (H more : List Entry) → opened_in H ≤ opened_in (H ++ more)
 opened_more [] more = omega arith
 opened_more (Opened k ∷ H) more = omega (arith, opened_more H more)
 opened_more (Created by coll ∷ H) more = opened_more H more
@@ -127,12 +127,12 @@ module _ {K : Type 0} (failed : K → ℕ) where
     faults_after = omega (arith, v.faults, faults)
 
     -- what a step makes of the session
-    pub session_after : (reply : Reply) → ForSome s.start (λ base. IsServed base s'.journal t'.coll t'.session (command_tree t'.command.value) t'.trace.items.items reply)
+    pub session_after : (reply : Reply) → ForSome s.start (λ base. IsServed base s'.journal t'.coll t'.session t'.trace.moment (command_tree t'.command.value) t'.trace.items.items reply)
         → ForSome s₀.start (λ base. (xs : List Exchange) → IsSession base s₀.journal t₀.session xs → IsSession base s'.journal t₀.session (xs ++ exchange t' reply ∷ []))
     session_after reply serves = λ base told xs h.
         let now = v.base.1 ∙ told in
         adds_session base (failed s.keeper) (failed s'.keeper) s.journal s'.journal t₀.session xs (exchange t (NoMemory 0)) (exchange t' reply) by_session (lawful base (base'.1 ∙ now)).0
-        (subst (λ (k : ℕ). IsServed base s'.journal t'.coll k (command_tree t'.command.value) t'.trace.items.items reply) (same.session ∙ v.same.session) (serves base now)) (v.session base told xs h)
+        (subst (λ (k : ℕ). IsServed base s'.journal t'.coll k t'.trace.moment (command_tree t'.command.value) t'.trace.items.items reply) (same.session ∙ v.same.session) (serves base now)) (v.session base told xs h)
 
     pub serving_goes_on : StandsOn s'.start s'.journal t' → IsServing s₀ s' t₀ t'
     serving_goes_on stands = record {
@@ -150,12 +150,16 @@ pub done_more : (s : State) (P Q : Reply → Type 0) → ((r : Reply) → P r �
 done_more (Inserting d) P Q f h = h
 done_more (Selecting w last) P Q f h = h
 done_more (Counting w last n) P Q f h = h
+done_more (Choosing u last) P Q f h = h
+done_more (Changing u read d) P Q f h = h
 done_more (Done r) P Q f h = f r h
 
 done_with : (s : State) (P : Reply → Type 0) → IfDone s P → (r : Reply) × (s ≡ Done r) × P r
 done_with (Inserting d) P h = absurd h
 done_with (Selecting w last) P h = absurd h
 done_with (Counting w last n) P h = absurd h
+done_with (Choosing u last) P h = absurd h
+done_with (Changing u read d) P h = absurd h
 done_with (Done r) P h = (r, refl, h)
 
 -- a task that is done hands back what its session was told

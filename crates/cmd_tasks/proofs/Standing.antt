@@ -1,5 +1,5 @@
 -- A step of a task, and the entries of others between two steps, keep where it stands.
-use Rattle.std.proofs.Common.{◌≡◌, ℕ, zero, suc, ◌+◌, ◌≤◌, List, [], ◌∷◌, ◌++◌, map, drop, reverse, length, Option, Some, refl, sym, ap, ◌∙◌, subst, arith, inl, inr, length-append, length-drop, Vec, Global}
+use Rattle.std.proofs.Common.{◌≡◌, ℕ, ℤ, zero, suc, ◌+◌, ◌≤◌, List, [], ◌∷◌, ◌++◌, map, drop, reverse, length, Option, Some, refl, sym, ap, ◌∙◌, subst, arith, inl, inr, length-append, length-drop, Vec, Global}
 use Rattle.std.specs.Prelude.{IfSome}
 use Rattle.std.specs.Option.{ForSome}
 use Rattle.col_keeper.specs.Tables.{Name}
@@ -14,7 +14,6 @@ use Rattle.reply_env.specs.declared.reply.Reply.TheVariants.{NoMemory}
 use Rattle.cmd_tasks.specs.declared.trace.Item.{Item}
 use Rattle.cmd_tasks.specs.declared.trace.Item.TheVariants.{Looked, Wrote, Lost, Faulted}
 use Rattle.cmd_tasks.proofs.Extension.{sights_more, within_longer, places_more}
-use Rattle.cmd_tasks.specs.declared.trace.Trace.{Trace}
 use Rattle.cmd_tasks.proofs.Requests.{cut_off}
 use Rattle.cmd_tasks.proofs.Sessions.{sights_snoc, ordered_snoc, within_snoc, written_snoc, places-append}
 use Rattle.cmd_tasks.specs.Moves.{Promises, asked, IsReady, Begins, Made, Steps, IsBegun, IsUnderWay}
@@ -22,7 +21,7 @@ use Rattle.cmd_tasks.specs.Placed.{OwnFrom, IsPlaced}
 use Rattle.cmd_tasks.specs.Stands.{StandsOn, IfDone}
 use Rattle.cmd_tasks.specs.declared.task.Task.{Task}
 use Rattle.cmd_tasks.specs.declared.work.State.{State}
-use Rattle.cmd_tasks.specs.declared.work.State.TheVariants.{Inserting, Selecting, Counting, Done}
+use Rattle.cmd_tasks.specs.declared.work.State.TheVariants.{Inserting, Selecting, Counting, Choosing, Changing, Done}
 use Rattle.cmd_tasks.specs.declared.work.Moved.TheVariants as m
 
 pub point_within : (n : ℕ) (i : Item) → IsWithin n i → point i ≤ n
@@ -88,23 +87,29 @@ done_so s P r is h = subst (λ (z : State). IfDone z P) (sym is) h
 asked_so : (o : Option CommandTree) (c : CommandTree) (P : CommandTree → Type 0) → o ≡ Some c → IfSome o P → P c
 asked_so o c P e h = subst (λ (z : Option CommandTree). IfSome z P) e h
 
-begins_asked : (c : CommandTree) (w : State) → Begins c w → asked w ≡ Some c
-begins_asked c (Inserting d) h = ap Some (sym h.0)
-begins_asked c (Selecting w last) h = ap Some (sym h.0)
-begins_asked c (Counting w last n) h = ap Some (sym h.0)
-begins_asked c (Done reply) h = absurd h
+begins_asked : (moment : ℤ) (c : CommandTree) (w : State) → Begins moment c w → asked w ≡ Some c
+begins_asked moment c (Inserting d) h = ap Some (sym h.0)
+begins_asked moment c (Selecting w last) h = ap Some (sym h.0)
+begins_asked moment c (Counting w last n) h = ap Some (sym h.0)
+begins_asked moment c (Choosing u last) h = ap Some (sym h.0)
+begins_asked moment c (Changing u read d) h = absurd h
+begins_asked moment c (Done reply) h = absurd h
 
-begins_ready : (c : CommandTree) (w : State) → Begins c w → IsReady w
-begins_ready c (Inserting d) h = h.1
-begins_ready c (Selecting w last) h = h.1
-begins_ready c (Counting w last n) h = (h.1, omega (arith, h.3))
-begins_ready c (Done reply) h = absurd h
+begins_ready : (moment : ℤ) (c : CommandTree) (w : State) → Begins moment c w → IsReady w
+begins_ready moment c (Inserting d) h = h.1
+begins_ready moment c (Selecting w last) h = h.1
+begins_ready moment c (Counting w last n) h = (h.1, omega (arith, h.3))
+begins_ready moment c (Choosing u last) h = (h.1, let n = ap length h.3 in omega arith)
+begins_ready moment c (Changing u read d) h = absurd h
+begins_ready moment c (Done reply) h = absurd h
 
-begins_way : (base : Base) (coll : Name) (k : ℕ) (c : CommandTree) (w : State) → Begins c w → IsUnderWay base coll k w []
-begins_way base coll k c (Inserting d) h = ((tt, refl), tt)
-begins_way base coll k c (Selecting w last) h = ((tt, tt), h.2)
-begins_way base coll k c (Counting w last n) h = ((tt, tt), (h.2, h.3))
-begins_way base coll k c (Done reply) h = absurd h
+begins_way : (base : Base) (coll : Name) (k : ℕ) (moment : ℤ) (c : CommandTree) (w : State) → Begins moment c w → IsUnderWay base coll k moment w []
+begins_way base coll k moment c (Inserting d) h = ((tt, refl), tt)
+begins_way base coll k moment c (Selecting w last) h = ((tt, tt), h.2)
+begins_way base coll k moment c (Counting w last n) h = ((tt, tt), (h.2, h.3))
+begins_way base coll k moment c (Choosing u last) h = ((tt, (refl, omega arith, tt)), (h.2, refl, record { moment_is = h.4; lost_are = ap reverse h.3 }))
+begins_way base coll k moment c (Changing u read d) h = absurd h
+begins_way base coll k moment c (Done reply) h = absurd h
 
 -- entries of others
 pub stands_longer : (start : Option Base) (H more : List Entry) (task : Task) → NoWork task.session more → StandsOn start H task → StandsOn start (H ++ more) task
@@ -112,46 +117,46 @@ stands_longer start H more task none h = record {
   asks = h.asks;
   ready = h.ready;
   placed = placed_more task.session H more task.trace.items.items none h.placed;
-  under_way = λ base told. subst (IsUnderWay base task.coll task.session task.state) (ap reverse (sym (sights_more H more task.trace.items.items h.placed.within))) (h.under_way base told);
+  under_way = λ base told. subst (IsUnderWay base task.coll task.session task.trace.moment task.state) (ap reverse (sym (sights_more H more task.trace.items.items h.placed.within))) (h.under_way base told);
 }
 
 -- a task that was just made
-pub begun_stands : (start : Option Base) (H : List Entry) (task : Task) → task.trace.items.items ≡ [] → Begins (command_tree task.command.value) task.state → StandsOn start H task
+pub begun_stands : (start : Option Base) (H : List Entry) (task : Task) → task.trace.items.items ≡ [] → Begins task.trace.moment (command_tree task.command.value) task.state → StandsOn start H task
 begun_stands start H task none begins = record {
-  asks = begins_asked (command_tree task.command.value) task.state begins;
-  ready = begins_ready (command_tree task.command.value) task.state begins;
+  asks = begins_asked task.trace.moment (command_tree task.command.value) task.state begins;
+  ready = begins_ready task.trace.moment (command_tree task.command.value) task.state begins;
   placed = subst (IsPlaced task.session H) (sym none) (record { ordered = tt; within = tt; own = tt });
-  under_way = λ base told. subst (λ (z : List Item). IsUnderWay base task.coll task.session task.state (sights H z)) (sym none) (begins_way base task.coll task.session (command_tree task.command.value) task.state begins);
+  under_way = λ base told. subst (λ (z : List Item). IsUnderWay base task.coll task.session task.trace.moment task.state (sights H z)) (sym none) (begins_way base task.coll task.session task.trace.moment (command_tree task.command.value) task.state begins);
 }
 
 -- a step that goes on
-pub stands_on : (start : Option Base) (low high : ℕ) (H H' : List Entry) (task : Task) (w w' : State) (item : Item) (trace : Trace) → StandsOn start H task → w ≡ task.state → trace.items.items ≡ task.trace.items.items ++ item ∷ []
-    → Steps task.session low high w H H' (m.Goes item w') → Promises start task.coll task.session H H' w (m.Goes item w') → StandsOn start H' (record task { trace = trace; state = w' })
-stands_on start low high H H' task w w' item trace h w_is longer steps leads = record {
+pub stands_on : (start : Option Base) (low high : ℕ) (H H' : List Entry) (task : Task) (w w' : State) (item : Item) (items : Vec Item Global) → StandsOn start H task → w ≡ task.state → items.items ≡ task.trace.items.items ++ item ∷ []
+    → Steps task.session low high w H H' (m.Goes item w') → Promises start task.coll task.session H H' w (m.Goes item w') → StandsOn start H' (record task { trace = record task.trace { items = items }; state = w' })
+stands_on start low high H H' task w w' item items h w_is longer steps leads = record {
   asks = steps.1 ∙ (ap asked w_is ∙ h.asks);
   ready = steps.2;
-  placed = placed_made task.session low high H H' task.trace.items.items trace.items.items item steps.0 longer h.placed;
-  under_way = λ base told. subst (IsUnderWay base task.coll task.session w') (sym (sights_made task.session low high H H' task.trace.items.items trace.items.items item steps.0 longer h.placed.within))
-      (leads base told task.trace.items.items h.placed (subst (λ (z : State). IsUnderWay base task.coll task.session z (sights H task.trace.items.items)) (sym w_is) (h.under_way base told)));
+  placed = placed_made task.session low high H H' task.trace.items.items items.items item steps.0 longer h.placed;
+  under_way = λ base told. subst (IsUnderWay base task.coll task.session task.trace.moment w') (sym (sights_made task.session low high H H' task.trace.items.items items.items item steps.0 longer h.placed.within))
+      (leads base told task.trace.moment task.trace.items.items h.placed (subst (λ (z : State). IsUnderWay base task.coll task.session task.trace.moment z (sights H task.trace.items.items)) (sym w_is) (h.under_way base told)));
 }
 
 -- a step that answers the request
 pub served_so : (start : Option Base) (low high : ℕ) (H H' : List Entry) (task : Task) (w : State) (item : Item) (reply : Reply) (trace : List Item) → StandsOn start H task → w ≡ task.state → trace ≡ task.trace.items.items ++ item ∷ []
     → Steps task.session low high w H H' (m.Ends item reply) → Promises start task.coll task.session H H' w (m.Ends item reply)
-    → ForSome start (λ base. IsServed base H' task.coll task.session (command_tree task.command.value) trace reply)
+    → ForSome start (λ base. IsServed base H' task.coll task.session task.trace.moment (command_tree task.command.value) trace reply)
 served_so start low high H H' task w item reply trace h w_is longer steps leads = λ base told.
-    subst (λ (z : List Sight). Serves base task.coll task.session (command_tree task.command.value) z reply) (sym (sights_made task.session low high H H' task.trace.items.items trace item steps longer h.placed.within))
-    (asked_so (asked w) (command_tree task.command.value) (λ c. Serves base task.coll task.session c (sight H' item ∷ sights H task.trace.items.items) reply) (ap asked w_is ∙ h.asks)
-    (leads base told task.trace.items.items h.placed (subst (λ (z : State). IsUnderWay base task.coll task.session z (sights H task.trace.items.items)) (sym w_is) (h.under_way base told))))
+    subst (λ (z : List Sight). Serves base task.coll task.session task.trace.moment (command_tree task.command.value) z reply) (sym (sights_made task.session low high H H' task.trace.items.items trace item steps longer h.placed.within))
+    (asked_so (asked w) (command_tree task.command.value) (λ c. Serves base task.coll task.session task.trace.moment c (sight H' item ∷ sights H task.trace.items.items) reply) (ap asked w_is ∙ h.asks)
+    (leads base told task.trace.moment task.trace.items.items h.placed (subst (λ (z : State). IsUnderWay base task.coll task.session task.trace.moment z (sights H task.trace.items.items)) (sym w_is) (h.under_way base told))))
 
 -- want of memory
 pub cut_so : (start : Option Base) (H H' : List Entry) (task : Task) (trace : List Item) → StandsOn start H task → H' ≡ H → trace ≡ task.trace.items.items
-    → ForSome start (λ base. IsServed base H' task.coll task.session (command_tree task.command.value) trace (NoMemory 0))
+    → ForSome start (λ base. IsServed base H' task.coll task.session task.trace.moment (command_tree task.command.value) trace (NoMemory 0))
 cut_so start H H' task trace h same same_trace = λ base told.
-    subst (λ (z : List Entry × List Item). IsServed base z.0 task.coll task.session (command_tree task.command.value) z.1 (NoMemory 0)) (λ j. (sym same j, sym same_trace j))
-    (cut_off base task.coll task.session (command_tree task.command.value) (sights H task.trace.items.items)
-    (asked_so (asked task.state) (command_tree task.command.value) (λ c. IsBegun base task.coll task.session c (sights H task.trace.items.items)) h.asks (h.under_way base told).0))
+    subst (λ (z : List Entry × List Item). IsServed base z.0 task.coll task.session task.trace.moment (command_tree task.command.value) z.1 (NoMemory 0)) (λ j. (sym same j, sym same_trace j))
+    (cut_off base task.coll task.session task.trace.moment (command_tree task.command.value) (sights H task.trace.items.items)
+    (asked_so (asked task.state) (command_tree task.command.value) (λ c. IsBegun base task.coll task.session task.trace.moment c (sights H task.trace.items.items)) h.asks (h.under_way base told).0))
 
 -- the trace of a task that stands, with the reply for want of memory, was served
-pub stands_served : (start : Option Base) (H : List Entry) (task : Task) → StandsOn start H task → ForSome start (λ base. IsServed base H task.coll task.session (command_tree task.command.value) task.trace.items.items (NoMemory 0))
+pub stands_served : (start : Option Base) (H : List Entry) (task : Task) → StandsOn start H task → ForSome start (λ base. IsServed base H task.coll task.session task.trace.moment (command_tree task.command.value) task.trace.items.items (NoMemory 0))
 stands_served start H task h = cut_so start H H task task.trace.items.items h refl refl

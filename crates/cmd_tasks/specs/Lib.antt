@@ -1,4 +1,5 @@
 pub mod Trace
+pub mod Attempts
 pub mod Served
 pub mod Session
 pub mod Placed

@@ -1,5 +1,5 @@
 -- Which trace and which reply of a request belong together. Sights stand with the newest first.
-use Rattle.std.specs.Prelude.{◌≡◌, ℕ, ◌+◌, ◌-◌, ◌^◌, ◌⊎◌, List, [], ◌∷◌, length, map, reverse, min, nat_lt, Option, Some, None, ⊤}
+use Rattle.std.specs.Prelude.{◌≡◌, ◌≢◌, ℕ, ℤ, ◌+◌, ◌-◌, ◌^◌, ◌<◌, ◌⊎◌, List, [], ◌∷◌, ◌++◌, length, map, reverse, min, nat_lt, false, Option, Some, None, IsSome, MatchOption, Result, Ok, Err, ⊤}
 use Rattle.std.specs.Option.{option_map}
 use Rattle.json_tree.specs.Tree.{Tree}
 use Rattle.json_tree.specs.View.{tree}
@@ -9,15 +9,21 @@ use Rattle.col_keeper.specs.Tables.{Name}
 use Rattle.reply_env.specs.Messages as errors
 use Rattle.reply_env.specs.Reply.{IsRefusal}
 use Rattle.reply_env.specs.declared.reply.ErrorItem.{ErrorItem}
+use Rattle.reply_env.specs.declared.update_errors.Loss.{Loss}
 use Rattle.reply_env.specs.declared.reply.Reply.{Reply}
-use Rattle.reply_env.specs.declared.reply.Reply.TheVariants.{Inserted, Found as FoundOne, Counted, Refused, NoMemory}
+use Rattle.reply_env.specs.declared.reply.Reply.TheVariants.{Inserted, Found as FoundOne, Counted, Updated, Refused, NoMemory}
 use Rattle.store_core.specs.State.{State, IsGone, number_at}
 use Rattle.store_core.specs.declared.entry.Entry.{Entry}
-use Rattle.store_core.specs.declared.entry.Entry.TheVariants.{Changed, Failed}
-use Rattle.store_core.specs.declared.entry.Change.{Change}
-use Rattle.store_core.specs.declared.entry.Change.TheVariants.{Insert}
-use Rattle.cmd_grammar.specs.Commands.{CommandTree, insert_one, find_one, count_documents}
-use Rattle.cmd_tasks.specs.Trace.{Sight, sight, now, shown, GoesOn, IsLook, next_from, IsListed}
+use Rattle.store_core.specs.declared.entry.Entry.TheVariants.{Failed}
+use Rattle.store_core.specs.declared.entry.Change.TheVariants.{Insert, Update}
+use Rattle.update_ops.specs.Clauses.{Clause}
+use Rattle.update_ops.specs.Apply.{apply}
+use Rattle.update_ops.specs.declared.fault.UpdateFault.{UpdateFault}
+use Rattle.filter_tree.specs.Filters.{FilterTree}
+use Rattle.cmd_grammar.specs.Refused.{update_error}
+use Rattle.cmd_grammar.specs.Commands.{CommandTree, insert_one, find_one, count_documents, update_one}
+use Rattle.cmd_tasks.specs.Trace.{Sight, sight, Found, now, shown, GoesOn, IsLook, next_from, IsListed}
+use Rattle.cmd_tasks.specs.Attempts.{WroteChange, IsAttempt}
 use Rattle.cmd_tasks.specs.declared.trace.Item.{Item}
 use Rattle.cmd_tasks.specs.declared.trace.Item.TheVariants.{Looked, Wrote, Lost, Faulted}
 
@@ -41,6 +47,7 @@ abbrev pub TellsInserted : Tree → Reply → Type 0
 TellsInserted id (Inserted ids) = ids.items ≡ id ∷ []
 TellsInserted id (FoundOne view) = ⊥
 TellsInserted id (Counted count more) = ⊥
+TellsInserted id (Updated matched modified) = ⊥
 TellsInserted id (Refused errors kept) = ⊥
 TellsInserted id (NoMemory n) = ⊥
 
@@ -49,62 +56,71 @@ abbrev pub TellsFound : Option Tree → Reply → Type 0
 TellsFound d (Inserted ids) = ⊥
 TellsFound d (FoundOne view) = option_map tree view ≡ d
 TellsFound d (Counted count more) = ⊥
+TellsFound d (Updated matched modified) = ⊥
 TellsFound d (Refused errors kept) = ⊥
 TellsFound d (NoMemory n) = ⊥
 
-module _ (base : State) (coll : Name) (k : ℕ) where
-  -- the item wrote: an entry by this session, of this change of the document that stood there
-  abbrev pub WroteChange : Tree → Change → Option ℕ → Sight → Type 0
-  WroteChange id change before s = (s.item ≡ Wrote (length s.past)) × ((tx : ℕ) × (s.entry ≡ Some (Changed k coll id change before tx)))
+-- ---- an update: rounds, of which each has looks and then an attempt
 
+-- the update makes another document of this one
+abbrev pub MakesAnother : List Clause → ℤ → Tree → Tree → Type 0
+MakesAnother u moment d new = (apply u d moment false ≡ Ok new) × (new ≢ d)
+
+-- the reply where no write is needed: the update leaves this document as it is, or is refused on it
+abbrev pub TellsUnwritten : Result Tree UpdateFault → Tree → Reply → Type 0
+TellsUnwritten (Ok new) d reply = (new ≡ d) × (reply ≡ Updated 1 0)
+TellsUnwritten (Err fault) d reply = IsRefusal (update_error fault) reply
+
+-- the lost attempts, the newest first
+abbrev pub lost_by : Item → List Loss
+lost_by (Looked at after up_to shown) = []
+lost_by (Wrote at) = []
+lost_by (Lost at read found) = record { read = read; found = found } ∷ []
+lost_by (Faulted at before count) = []
+
+abbrev pub losses : List Sight → List Loss
+losses [] = []
+losses (s ∷ earlier) = lost_by s.item ++ losses earlier
+
+-- the looks of the present round: those since the last attempt
+abbrev pub round_with : Item → Sight → List Sight → List Sight
+round_with (Looked at after up_to shown) s looks = s ∷ looks
+round_with (Wrote at) s looks = []
+round_with (Lost at read found) s looks = []
+round_with (Faulted at before count) s looks = []
+
+abbrev pub round : List Sight → List Sight
+round [] = []
+round (s ∷ earlier) = round_with s.item s (round earlier)
+
+module _ (base : State) (coll : Name) (k : ℕ) where
   -- An insertion: the id isn't there and the document is written by this session, or its id is there
   pub record IsInserted (d : Tree) (s : Sight) : Type 0 where
     pub absent : number_at (now base coll s) coll (id_of d) ≡ None
-    pub wrote : WroteChange (id_of d) (Insert d) None s
+    pub wrote : WroteChange base coll k (id_of d) (Insert d) None s
 
   pub record IsTaken (d : Tree) (tx : ℕ) (s : Sight) : Type 0 where
     pub item : s.item ≡ Lost (length s.past) 0 (Some tx)
     pub there : number_at (now base coll s) coll (id_of d) ≡ Some tx
 
-  -- The request is not answered yet by the sights so far
-  abbrev pub IsOpen : CommandTree → List Sight → Type 0
-  IsOpen (insert_one d) sights = sights ≡ []
-  IsOpen (find_one f) sights = GoesOn base coll f 1 sights
-  IsOpen (count_documents f) sights = GoesOn base coll f 1001 sights
-
-  -- what comes next
-  abbrev pub Next : CommandTree → List Sight → Sight → Type 0
-  Next (insert_one d) sights s = IsInserted d s ⊎ ((tx : ℕ) × IsTaken d tx s)
-  Next (find_one f) sights s = IsLook base coll f (next_from None sights) s
-  Next (count_documents f) sights s = IsLook base coll f (next_from None sights) s
-
-  -- the sights so far are those of the command
-  abbrev pub IsPartOf : CommandTree → List Sight → Type 0
-  IsPartOf c [] = ⊤
-  IsPartOf c (s ∷ earlier) = IsPartOf c earlier × IsOpen c earlier × Next c earlier s
-
-  -- the reply to all of them
-  abbrev pub Answers : CommandTree → List Sight → Reply → Type 0
-  Answers (insert_one d) [] reply = ⊥
-  Answers (insert_one d) (s ∷ earlier) reply =
-      (IsInserted d s × TellsInserted (id_of d) reply)
-      ⊎ ((tx : ℕ) × IsTaken d tx s × IsRefusal (errors.already_exists (id_of d) tx) reply)
-  Answers (find_one f) sights reply =
-      IsListed base coll f 1 sights × TellsFound (option_map (λ x. x.doc) (first (shown base coll f sights))) reply
-  Answers (count_documents f) sights reply =
-      IsListed base coll f 1001 sights × (reply ≡ counted (length (shown base coll f sights)))
+  -- the document that the present round has chosen
+  abbrev pub chosen : FilterTree → List Sight → Option Found
+  chosen f sights = first (shown base coll f (round sights))
 
   -- a write of a document comes next
   abbrev pub IsToWrite : CommandTree → List Sight → Type 0
   IsToWrite (insert_one d) sights = ⊤
   IsToWrite (find_one f) sights = ⊥
   IsToWrite (count_documents f) sights = ⊥
+  IsToWrite (update_one f u) sights = IsSome (chosen f sights)
 
   -- the interval of a look at a point where there is nothing to look at or to write
   abbrev pub Marks : CommandTree → List Sight → Option Tree → Option Tree → Type 0
   Marks (insert_one d) sights after up = (after ≡ Some (id_of d)) × (up ≡ Some (id_of d))
   Marks (find_one f) sights after up = (after ≡ next_from None sights) × (up ≡ None)
   Marks (count_documents f) sights after up = (after ≡ next_from None sights) × (up ≡ None)
+  Marks (update_one f u) sights after up =
+      MatchOption (chosen f sights) ((after ≡ next_from None (round sights)) × (up ≡ None)) (λ x. (after ≡ Some x.id) × (up ≡ Some x.id))
 
   -- the request stops at this sight, with this error: no collection, no version number left for a write, or a failed call
   abbrev pub Stops : (Option Tree → Option Tree → Type 0) → Type 0 → Item → Sight → ErrorItem → Type 0
@@ -117,21 +133,60 @@ module _ (base : State) (coll : Name) (k : ℕ) where
   Stops marks to_write (Faulted at before count) s error =
       (s.entry ≡ Some (Failed k before count)) × (error ≡ errors.store_fault before count)
 
-  abbrev pub IsStopped : CommandTree → List Sight → ErrorItem → Type 0
-  IsStopped c [] error = ⊥
-  IsStopped c (s ∷ earlier) error = IsPartOf c earlier × IsOpen c earlier × Stops (Marks c earlier) (IsToWrite c earlier) s.item s error
+  module _ (moment : ℤ) where
+    -- The request is not answered yet by the sights so far
+    abbrev pub IsOpen : CommandTree → List Sight → Type 0
+    IsOpen (insert_one d) sights = sights ≡ []
+    IsOpen (find_one f) sights = GoesOn base coll f 1 sights
+    IsOpen (count_documents f) sights = GoesOn base coll f 1001 sights
+    IsOpen (update_one f u) sights =
+        (accepted sights ≡ 0) × (length (losses sights) < 4)
+        × MatchOption (chosen f sights) (GoesOn base coll f 1 (round sights)) (λ x. (new : Tree) × MakesAnother u moment x.doc new)
 
-  -- the trace, the newest sight first, and the reply belong to the command: it is answered, or stopped by an error, or cut off for want of memory
-  abbrev pub Serves : CommandTree → List Sight → Reply → Type 0
-  Serves c sights reply =
-      (IsPartOf c sights × Answers c sights reply)
-      ⊎ ((error : ErrorItem) × IsStopped c sights error × IsRefusal error reply)
-      ⊎ ((IsPartOf c sights ⊎ ((error : ErrorItem) × IsStopped c sights error)) × (reply ≡ NoMemory (accepted sights)))
+    -- what comes next
+    abbrev pub Next : CommandTree → List Sight → Sight → Type 0
+    Next (insert_one d) sights s = IsInserted d s ⊎ ((tx : ℕ) × IsTaken d tx s)
+    Next (find_one f) sights s = IsLook base coll f (next_from None sights) s
+    Next (count_documents f) sights s = IsLook base coll f (next_from None sights) s
+    Next (update_one f u) sights s = MatchOption (chosen f sights) (IsLook base coll f (next_from None (round sights)) s)
+        (λ x. (new : Tree) × MakesAnother u moment x.doc new × IsAttempt base coll k f (Update u moment new) (round sights) x s)
+
+    -- the sights so far are those of the command
+    abbrev pub IsPartOf : CommandTree → List Sight → Type 0
+    IsPartOf c [] = ⊤
+    IsPartOf c (s ∷ earlier) = IsPartOf c earlier × IsOpen c earlier × Next c earlier s
+
+    -- the reply to all of them
+    abbrev pub Answers : CommandTree → List Sight → Reply → Type 0
+    Answers (insert_one d) [] reply = ⊥
+    Answers (insert_one d) (s ∷ earlier) reply =
+        (IsInserted d s × TellsInserted (id_of d) reply)
+        ⊎ ((tx : ℕ) × IsTaken d tx s × IsRefusal (errors.already_exists (id_of d) tx) reply)
+    Answers (find_one f) sights reply =
+        IsListed base coll f 1 sights × TellsFound (option_map (λ x. x.doc) (first (shown base coll f sights))) reply
+    Answers (count_documents f) sights reply =
+        IsListed base coll f 1001 sights × (reply ≡ counted (length (shown base coll f sights)))
+    Answers (update_one f u) sights reply =
+        ((accepted sights ≡ 1) × (reply ≡ Updated 1 1))
+        ⊎ ((length (losses sights) ≡ 4) × IsRefusal (errors.lost_writes (reverse (losses sights))) reply)
+        ⊎ ((accepted sights ≡ 0) × (length (losses sights) < 4) × IsListed base coll f 1 (round sights)
+        × MatchOption (chosen f sights) (reply ≡ Updated 0 0) (λ x. TellsUnwritten (apply u x.doc moment false) x.doc reply))
+
+    abbrev pub IsStopped : CommandTree → List Sight → ErrorItem → Type 0
+    IsStopped c [] error = ⊥
+    IsStopped c (s ∷ earlier) error = IsPartOf c earlier × IsOpen c earlier × Stops (Marks c earlier) (IsToWrite c earlier) s.item s error
+
+    -- the trace, the newest sight first, and the reply belong to the command: it is answered, or stopped by an error, or cut off for want of memory
+    abbrev pub Serves : CommandTree → List Sight → Reply → Type 0
+    Serves c sights reply =
+        (IsPartOf c sights × Answers c sights reply)
+        ⊎ ((error : ErrorItem) × IsStopped c sights error × IsRefusal error reply)
+        ⊎ ((IsPartOf c sights ⊎ ((error : ErrorItem) × IsStopped c sights error)) × (reply ≡ NoMemory (accepted sights)))
 
 -- what the trace saw of the history, the newest first
 abbrev pub sights : List Entry → List Item → List Sight
 sights H trace = reverse (map (sight H) trace)
 
 -- the request was served: what it saw of the history H and the reply belong together
-abbrev pub IsServed : State → List Entry → Name → ℕ → CommandTree → List Item → Reply → Type 0
-IsServed base H coll k c trace reply = Serves base coll k c (sights H trace) reply
+abbrev pub IsServed : State → List Entry → Name → ℕ → ℤ → CommandTree → List Item → Reply → Type 0
+IsServed base H coll k moment c trace reply = Serves base coll k moment c (sights H trace) reply

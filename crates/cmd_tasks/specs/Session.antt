@@ -65,13 +65,13 @@ written [] = []
 written (i ∷ is) = cond (writes i) (point i ∷ written is) (written is)
 
 -- the reply and what it rests on belong to the request
-abbrev pub Answered : State → List Entry → ℕ → Asking → List Item → Reply → Type 0
-Answered base H k (asks_for coll c) trace reply = IsServed base H coll k c trace reply
-Answered base H k (is_refused error) trace reply = (trace ≡ []) × (IsRefusal error reply ⊎ (reply ≡ NoMemory 0))
-Answered base H k is_unread trace reply = (trace ≡ []) × (reply ≡ NoMemory 0)
+abbrev pub Answered : State → List Entry → ℕ → ℤ → Asking → List Item → Reply → Type 0
+Answered base H k moment (asks_for coll c) trace reply = IsServed base H coll k moment c trace reply
+Answered base H k moment (is_refused error) trace reply = (trace ≡ []) × (IsRefusal error reply ⊎ (reply ≡ NoMemory 0))
+Answered base H k moment is_unread trace reply = (trace ≡ []) × (reply ≡ NoMemory 0)
 
 abbrev pub IsAnswered : State → List Entry → ℕ → Exchange → Type 0
-IsAnswered base H k x = Answered base H k x.asking x.trace x.reply
+IsAnswered base H k x = Answered base H k x.moment x.asking x.trace x.reply
 
 -- each exchange is answered
 abbrev pub AreAnswered : State → List Entry → ℕ → List Exchange → Type 0

@@ -14,14 +14,14 @@ use Rattle.cmd_tasks.specs.declared.trace.Item.{Item}
 use Rattle.cmd_tasks.specs.declared.task.Task.{Task}
 use Rattle.cmd_tasks.specs.declared.task.Served.{Served}
 use Rattle.cmd_tasks.specs.declared.work.State.{State}
-use Rattle.cmd_tasks.specs.declared.work.State.TheVariants.{Inserting, Selecting, Counting, Done}
+use Rattle.cmd_tasks.specs.declared.work.State.TheVariants.{Inserting, Selecting, Counting, Choosing, Changing, Done}
 
 -- the task isn't done, and stands on a history, which begins at this state where that is told
 pub record StandsOn (start : Option Base) (H : List Entry) (task : Task) : Type 0 where
   pub asks : asked task.state ≡ Some (command_tree task.command.value)
   pub ready : IsReady task.state
   pub placed : IsPlaced task.session H task.trace.items.items
-  pub under_way : ForSome start (λ base. IsUnderWay base task.coll task.session task.state (sights H task.trace.items.items))
+  pub under_way : ForSome start (λ base. IsUnderWay base task.coll task.session task.trace.moment task.state (sights H task.trace.items.items))
 
 -- the same request
 pub record IsSame (old new : Task) : Type 0 where
@@ -39,6 +39,8 @@ abbrev pub IfDone : State → (Reply → Type 0) → Type 0
 IfDone (Inserting d) P = ⊥
 IfDone (Selecting w last) P = ⊥
 IfDone (Counting w last n) P = ⊥
+IfDone (Choosing u last) P = ⊥
+IfDone (Changing u read d) P = ⊥
 IfDone (Done reply) P = P reply
 
 -- the request of a task that is done, as it was served

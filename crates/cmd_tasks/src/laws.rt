@@ -1,5 +1,5 @@
 // Laws of tasks and sessions: each function does nothing, and its clauses are the laws.
-ghost use Rattle.std.specs.Prelude.{◌≡◌, ◌≢◌, ◌≤◌, ◌+◌, ℕ, List, Option, length, slice_get, slice_set, [], ◌∷◌, ◌++◌, Some};
+ghost use Rattle.std.specs.Prelude.{◌≡◌, ◌≢◌, ◌≤◌, ◌+◌, ℕ, ℤ, List, Option, length, slice_get, slice_set, [], ◌∷◌, ◌++◌, Some};
 ghost use Rattle.std.specs.Option.{ForSome};
 ghost use Rattle.col_keeper.specs.Tables.{Name};
 ghost use Rattle.reply_env.specs.declared.reply.Reply.{Reply as Answer};
@@ -24,13 +24,13 @@ pub fn others_may_append()
 /// The trace of a task that stands, with the reply for want of memory, was served.
 pub fn a_task_may_be_cut_off()
     ensures { (start : Option Base) (history : List Journaled) (task : Tasked) → StandsOn start history task
-        → ForSome start (λ base. IsServed base history task.coll task.session (command_tree task.command.value) task.trace.items.items (NoMemory 0)) }
+        → ForSome start (λ base. IsServed base history task.coll task.session task.trace.moment (command_tree task.command.value) task.trace.items.items (NoMemory 0)) }
 {}
 
 /// What was served stays served in every longer history.
 pub fn what_was_served_stays()
-    ensures { (base : Base) (history more : List Journaled) (coll : Name) (k : ℕ) (c : CommandTree) (trace : List Seen) (reply : Answer)
-        → AreWithin (length history) trace → IsServed base history coll k c trace reply → IsServed base (history ++ more) coll k c trace reply }
+    ensures { (base : Base) (history more : List Journaled) (coll : Name) (k : ℕ) (moment : ℤ) (c : CommandTree) (trace : List Seen) (reply : Answer)
+        → AreWithin (length history) trace → IsServed base history coll k moment c trace reply → IsServed base (history ++ more) coll k moment c trace reply }
 {}
 
 /// A session stays one in every longer history to which others alone have added.

@@ -9,6 +9,7 @@ mod task;
 #[cfg(test)]
 mod tests;
 mod trace;
+mod updates;
 mod work;
 
 pub use laws::{

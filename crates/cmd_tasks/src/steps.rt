@@ -85,7 +85,7 @@ fn taken(alloc: Global, at: u64, found: Option<u64>, id: &DocId) -> Moved
 }
 
 /// Nothing was there to be written to, or no number was left to write with.
-fn marked(
+pub(crate) fn marked(
     alloc: Global,
     at: u64,
     key: DocId,
@@ -100,7 +100,7 @@ fn marked(
 }
 
 /// The call failed.
-fn failed(alloc: Global, at: u64, before: u64, after: u64) -> Moved
+pub(crate) fn failed(alloc: Global, at: u64, before: u64, after: u64) -> Moved
     ensures { EndsSo (Faulted at before after) (Refuses (errors.store_fault before after)) result }
 {
     let reply = refuse(alloc, store_fault(alloc, before, after));

@@ -3,17 +3,18 @@ ghost use Rattle.std.specs.Prelude.{◌≡◌, ⊤, ℕ, ◌+◌, ◌<◌, ◌�
 ghost use Rattle.std.specs.Option.{ForSome};
 ghost use Rattle.store_core.specs.Counts.{opened_in};
 ghost use Rattle.store_core.specs.State.{State as Base};
-ghost use Rattle.store_core.specs.Store.{IsLawful, SameBase};
+ghost use Rattle.store_core.specs.Store.{IsLawful, SameBase, AtState};
 ghost use Rattle.store_core.specs.Growth.{Grows};
 ghost use Rattle.store_core.specs.declared.entry.Entry.{Entry as Journaled};
 ghost use Rattle.cmd_grammar.specs.Commands.{command_tree, IsAskable};
 ghost use Rattle.cmd_tasks.specs.Served.{IsServed};
-ghost use Rattle.cmd_tasks.specs.Moves.{Steps, Promises, IsReady, Begins, left};
+ghost use Rattle.cmd_tasks.specs.Moves.{Steps, Promises, IsReady, Begins, Fits, left};
 ghost use Rattle.cmd_tasks.specs.Stands.{StandsOn, IsSame, Adds, IfDone};
 
 use crate::steps::{count, insert, select};
 use crate::trace::{Item, Trace};
-use crate::work::{Moved, State, Wanted};
+use crate::updates::{change, choose};
+use crate::work::{Moved, State, Updating, Wanted};
 use cmd_grammar::Command;
 use col_keeper::Keeper;
 use doc_paths::CollName;
@@ -21,7 +22,7 @@ use reply_env::Reply;
 use std::alloc::Global;
 use std::mem;
 use std::snapshot::Snapshot;
-use store_core::Store;
+use store_core::{Store, numbers_are_given_once};
 
 /// One request, as far as it has come.
 #[derive(Drop)]
@@ -50,6 +51,7 @@ fn advance<K: Keeper>(
 ) -> Moved
     requires known { by < opened_in store.old.journal }
     requires ready { IsReady state }
+    requires fits { AtState store.old (λ s. Fits s coll.now state) }
     ensures steps { Steps by (K.failed store.old.keeper) (K.failed store.new.keeper) state store.old.journal store.new.journal result }
     ensures leads { Promises store.old.start coll.now by store.old.journal store.new.journal state result }
     ensures base { SameBase store.old store.new }
@@ -66,14 +68,16 @@ fn advance<K: Keeper>(
             last,
             shown,
         } => count(alloc, store, by, coll, wanted, last, shown),
+        State::Choosing { update, last } => choose(alloc, store, by, coll, update, last),
+        State::Changing { update, read, doc } => change(alloc, store, by, coll, update, read, doc),
         State::Done { reply: _ } => unreachable!(),
     }
 }
 
 /// The state in which a request begins.
-fn first_state(alloc: Global, command: Command) -> State
+fn first_state(alloc: Global, moment: i64, command: Command) -> State
     requires { IsAskable (command_tree command) }
-    ensures { Begins (command_tree command) result }
+    ensures { Begins moment (command_tree command) result }
 {
     match command {
         Command::InsertOne { document } => State::Inserting { document },
@@ -86,6 +90,15 @@ fn first_state(alloc: Global, command: Command) -> State
             last: None,
             shown: 0,
         },
+        Command::UpdateOne { filter, updates } => State::Choosing {
+            update: Updating {
+                wanted: Wanted::new(alloc, filter),
+                updates,
+                moment,
+                lost: Vec::new(alloc),
+            },
+            last: None,
+        },
     }
 }
 
@@ -96,7 +109,7 @@ impl Task {
         requires { IsAskable (command_tree command) }
         ensures asked { (result.session ≡ session) × (result.coll ≡ coll) × (result.trace.moment ≡ moment) × (result.command.value ≡ command) }
         ensures empty { result.trace.items.items ≡ [] }
-        ensures begins { Begins (command_tree command) result.state }
+        ensures begins { Begins moment (command_tree command) result.state }
         ensures stands { (start : Option Base) (history : List Journaled) → StandsOn start history result }
     {
         let asked = Snapshot::of(&command);
@@ -105,7 +118,7 @@ impl Task {
             coll,
             command: asked,
             trace: Trace::new(alloc, moment),
-            state: first_state(alloc, command),
+            state: first_state(alloc, moment, command),
         }
     }
 
@@ -117,7 +130,7 @@ impl Task {
         ensures adds { Adds self.old.session (K.failed store.old.keeper) (K.failed store.new.keeper) store.old.journal store.new.journal self.old.trace.items.items self.new.trace.items.items }
         ensures more { result ≡ Next.More → StandsOn store.new.start store.new.journal self.new × (left self.new.state < left self.old.state) }
         ensures done { result ≡ Next.Done → IfDone self.new.state (λ reply. ForSome store.old.start (λ base.
-            IsServed base store.new.journal self.new.coll self.new.session (command_tree self.new.command.value) self.new.trace.items.items reply)) }
+            IsServed base store.new.journal self.new.coll self.new.session self.new.trace.moment (command_tree self.new.command.value) self.new.trace.items.items reply)) }
         ensures base { SameBase store.old store.new }
         ensures grows { Grows (Some self.old.session) store.old.journal store.new.journal }
         ensures faults { K.failed store.old.keeper ≤ K.failed store.new.keeper }
@@ -125,6 +138,7 @@ impl Task {
         ensures lawful { IsLawful store.new }
     {
         store.journal_len();
+        numbers_are_given_once();
         let ended = State::Done {
             reply: Reply::NoMemory { accepted: 0 },
         };
@@ -171,9 +185,11 @@ impl Task {
         } = self;
         match state {
             State::Done { reply } => Served { reply, trace },
-            State::Inserting { .. } | State::Selecting { .. } | State::Counting { .. } => {
-                unreachable!()
-            }
+            State::Inserting { .. }
+            | State::Selecting { .. }
+            | State::Counting { .. }
+            | State::Choosing { .. }
+            | State::Changing { .. } => { unreachable!() }
         }
     }
 }

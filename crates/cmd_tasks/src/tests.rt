@@ -1,11 +1,15 @@
 // Requests over a keeper in memory: their replies, and what they saw and did.
-ghost use Rattle.std.specs.Prelude.{◌<◌, IfOk, IfSome};
-ghost use Rattle.store_core.specs.Counts.{opened_in};
+ghost use Rattle.std.specs.Prelude.{◌≡◌, ◌≢◌, ◌<◌, ◌++◌, List, IfOk, IfSome};
+ghost use Rattle.store_core.specs.Counts.{opened_in, AllBy};
+ghost use Rattle.store_core.specs.Store.{SameBase};
+ghost use Rattle.store_core.specs.declared.entry.Entry.{Entry as Journaled};
+ghost use Rattle.cmd_tasks.specs.Stands.{StandsOn};
 ghost use Rattle.cmd_grammar.specs.Commands.{command_tree, IsAskable};
 
+use crate::laws::others_may_append;
 use crate::run::serve;
-use crate::task::{Served, Task};
-use crate::trace::Item;
+use crate::task::{Next, Served, Task};
+use crate::trace::{Item, Trace};
 use cmd_grammar::{Command, read_request};
 use doc_paths::CollName;
 use json_tree::Text;
@@ -76,8 +80,49 @@ fn served(
 ) -> Served
     requires known { session < opened_in store.old.journal }
     requires asked { IsAskable (command_tree command) }
+    ensures grown { (more : List Journaled) × (store.new.journal ≡ store.old.journal ++ more) × AllBy session more }
+    ensures base { SameBase store.old store.new }
 {
     serve(alloc, store, Task::new(alloc, session, coll, 0, command))
+}
+
+// One document is updated, under a session that was opened.
+fn rewritten(alloc: Global, store: &mut Store<MemKeeper>, session: u64) -> Result<bool, Fail>
+    requires known { session < opened_in store.old.journal }
+    ensures grown { (more : List Journaled) × (store.new.journal ≡ store.old.journal ++ more) × AllBy session more }
+    ensures base { SameBase store.old store.new }
+{
+    let coll = CollName::read(alloc, "c")?;
+    let Some(command) = command_of(alloc, INCREMENT)? else {
+        return Ok(false);
+    };
+    let _served = served(alloc, store, session, coll, command);
+    Ok(true)
+}
+
+// The steps of a task, behind whose first looks another session writes, so many times.
+fn contended(
+    alloc: Global,
+    store: &mut Store<MemKeeper>,
+    task: Task,
+    other: u64,
+    times: usize,
+) -> Result<Option<Served>, Fail>
+    requires known { (task.session < opened_in store.old.journal) × (other < opened_in store.old.journal) }
+    requires apart { task.session ≢ other }
+    requires stands { StandsOn store.old.start store.old.journal task }
+{
+    others_may_append();
+    let mut task = task;
+    'steps: for i in 0..12 {
+        if let Next::Done = task.step(alloc, store) {
+            return Ok(Some(task.into_served()));
+        }
+        if i % 2 == 0 && i / 2 < times {
+            rewritten(alloc, store, other)?;
+        }
+    }
+    Ok(None)
 }
 
 // A collection, a body, what is answered, and the one item with its point.
@@ -114,8 +159,29 @@ fn first_wrong(
     Ok(None)
 }
 
+const INCREMENT: &str = r#"{"updateOne":{"filter":{"_id":"a"},"update":{"$inc":{"n":1}}}}"#;
+
+// How many times another session writes behind the looks, what is answered, and the items with their points.
+const RACES: [(usize, &str, &str); 3] = [
+    (
+        0,
+        r#"{"status":{"matchedCount":1,"modifiedCount":1}}"#,
+        "looked 4 wrote 4 ",
+    ),
+    (
+        1,
+        r#"{"status":{"matchedCount":1,"modifiedCount":1}}"#,
+        "looked 7 lost 8 looked 8 wrote 8 ",
+    ),
+    (
+        4,
+        r#"{"errors":[{"message":"Lost to other writers: 4>5, 5>6, 6>7, 7>8","errorCode":"CONCURRENCY_FAILURE"}]}"#,
+        "looked 11 lost 12 looked 12 lost 13 looked 13 lost 14 looked 14 lost 15 ",
+    ),
+];
+
 // The fifth call of the keeper fails: the first lists, the second makes the collection.
-const ROWS: [Row; 6] = [
+const ROWS: [Row; 9] = [
     (
         "c",
         r#"{"insertOne":{"document":{"_id":"a","n":1}}}"#,
@@ -158,6 +224,27 @@ const ROWS: [Row; 6] = [
         "looked",
         8,
     ),
+    (
+        "c",
+        r#"{"updateOne":{"filter":{"n":2},"update":{"$set":{"n":3}}}}"#,
+        r#"{"status":{"matchedCount":0,"modifiedCount":0}}"#,
+        "looked",
+        9,
+    ),
+    (
+        "c",
+        r#"{"updateOne":{"filter":{"n":1},"update":{"$set":{"n":1}}}}"#,
+        r#"{"status":{"matchedCount":1,"modifiedCount":0}}"#,
+        "looked",
+        10,
+    ),
+    (
+        "c",
+        r#"{"updateOne":{"filter":{"n":1},"update":{"$push":{"n":1}}}}"#,
+        r#"{"errors":[{"message":"Update target is of the wrong kind at n","errorCode":"UNSUPPORTED_UPDATE_OPERATION_TARGET"}]}"#,
+        "looked",
+        11,
+    ),
 ];
 
 #[test]
@@ -167,6 +254,81 @@ fn requests_see_and_do_what_they_say(rt: HostRuntime) -> Result<(), Fail> {
         panic!(rt; "not opened");
     };
     let wrong = first_wrong(alloc, &mut store, &ROWS);
+    let _keeper = store.into_keeper();
+    assert_eq!(rt; wrong?, None);
+    Ok(())
+}
+
+// An update of the one document, behind whose first looks another session writes, so many times.
+fn raced(
+    alloc: Global,
+    store: &mut Store<MemKeeper>,
+    times: usize,
+) -> Result<Option<Served>, Fail> {
+    let coll = CollName::read(alloc, "c")?;
+    let Some(command) = command_of(alloc, INCREMENT)? else {
+        return Ok(None);
+    };
+    let Ok(other) = store.open_session(alloc) else {
+        return Ok(None);
+    };
+    let Ok(session) = store.open_session(alloc) else {
+        return Ok(None);
+    };
+    let task = Task::new(alloc, session, coll, 0, command);
+    contended(alloc, store, task, other, times)
+}
+
+// The items of a trace, each with its point.
+fn items_of(alloc: Global, trace: &Trace) -> Result<String, Fail> {
+    let mut items = String::new(alloc);
+    for place in 0..trace.len() {
+        if let Some(item) = trace.item(place) {
+            let (word, at) = tells(item);
+            items.push_str(&format!(in alloc; "{word} {at} ")?)?;
+        }
+    }
+    Ok(items)
+}
+
+// Whether a race ends so.
+fn ends_so(
+    alloc: Global,
+    store: &mut Store<MemKeeper>,
+    race: (usize, &str, &str),
+) -> Result<bool, Fail> {
+    let Some(served) = raced(alloc, store, race.0)? else {
+        return Ok(false);
+    };
+    let text = text_of(alloc, &served.reply)?;
+    let items = items_of(alloc, &served.trace)?;
+    Ok(text.as_slice() == race.1.as_bytes() && items.as_str() == race.2)
+}
+
+// The place of the first race that doesn't end so, one behind the other on one store.
+fn first_lost(
+    alloc: Global,
+    store: &mut Store<MemKeeper>,
+    races: &[(usize, &str, &str)],
+) -> Result<Option<usize>, Fail> {
+    for i in 0..races.len() {
+        if !ends_so(alloc, store, races[i])? {
+            return Ok(Some(i));
+        }
+    }
+    Ok(None)
+}
+
+#[test]
+fn an_update_is_tried_four_times(rt: HostRuntime) -> Result<(), Fail> {
+    let alloc = rt.alloc();
+    let Some(mut store) = opened(alloc, 99)? else {
+        panic!(rt; "not opened");
+    };
+    let wrong = match first_wrong(alloc, &mut store, &ROWS[..1]) {
+        Ok(None) => first_lost(alloc, &mut store, &RACES),
+        found => found,
+    };
     let _keeper = store.into_keeper();
     assert_eq!(rt; wrong?, None);
     Ok(())

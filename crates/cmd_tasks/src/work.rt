@@ -9,10 +9,11 @@ ghost use Rattle.cmd_tasks.specs.Wanted.{IsWanted};
 use crate::trace::Item;
 use filter_plan::{Plan, Verdict, plan};
 use filter_tree::Filter;
-use json_tree::{DocId, Value};
-use reply_env::Reply;
+use json_tree::{Doc, DocId, Value};
+use reply_env::{Loss, Reply};
 use shred_cols::Row;
 use std::alloc::Global;
+use update_ops::Updates;
 
 /// A filter, with its plan if memory was there for it.
 #[derive(Drop)]
@@ -52,6 +53,16 @@ pub(crate) fn is_match(wanted: &Filter, plan: &Plan, row: &Row) -> bool
     }
 }
 
+/// An update that is asked for: what is wanted, what is done to the first match, the moment of the request, and the
+/// attempts that were lost so far.
+#[derive(Drop)]
+pub(crate) struct Updating {
+    pub(crate) wanted: Wanted,
+    pub(crate) updates: Updates,
+    pub(crate) moment: i64,
+    pub(crate) lost: Vec<Loss>,
+}
+
 /// What is to be done next.
 #[derive(Drop)]
 pub(crate) enum State {
@@ -66,6 +77,15 @@ pub(crate) enum State {
         wanted: Wanted,
         last: Option<DocId>,
         shown: u64,
+    },
+    Choosing {
+        update: Updating,
+        last: Option<DocId>,
+    },
+    Changing {
+        update: Updating,
+        read: u64,
+        doc: Doc,
     },
     Done {
         reply: Reply,

@@ -216,9 +216,26 @@ limits_kept : (o : Option Broken) (d r : Tree) → Free d → unbroken o d ≡ O
 limits_kept None d r h e = unchanged d r h e
 limits_kept (Some b) d r h e = Prim.cc e
 
+kept_whole : (cs : List Clause) (d r : Tree) (moment : ℤ) (on_insert : Bool) → are_safe cs ≡ true → IsDocument d → apply cs d moment on_insert ≡ Ok r → Kept d r
+kept_whole cs d r moment on_insert safe doc e = onward_kept (applied moment on_insert cs d) within_limits d r e (λ u q. applied_kept moment on_insert cs d u safe doc.names q) (λ u f q. limits_kept (broken u) u r f q)
+
+pub same_id : (cs : List Clause) (d r : Tree) (moment : ℤ) (on_insert : Bool) → are_safe cs ≡ true → IsDocument d → apply cs d moment on_insert ≡ Ok r → id_in r ≡ id_in d
+same_id cs d r moment on_insert safe doc e = let k = kept_whole cs d r moment on_insert safe doc e in k.id
+
+none_broken : (o : Option Broken) (u r : Tree) → broken u ≡ o → unbroken o u ≡ Ok r → broken r ≡ None
+none_broken None u r b e = let q : u ≡ r = Prim.cc e in ap broken (sym q) ∙ b
+none_broken (Some x) u r b e = Prim.cc e
+
+onward_broken : (o : Result Tree UpdateFault) (r : Tree) → onward o within_limits ≡ Ok r → broken r ≡ None
+onward_broken (Ok u) r e = none_broken (broken u) u r refl e
+onward_broken (Err f) r e = Prim.cc e
+
+pub keeps_limits : (cs : List Clause) (d r : Tree) (moment : ℤ) (on_insert : Bool) → apply cs d moment on_insert ≡ Ok r → broken r ≡ None
+keeps_limits cs d r moment on_insert e = onward_broken (applied moment on_insert cs d) r e
+
 pub stays_document : (cs : List Clause) (d r : Tree) (moment : ℤ) (on_insert : Bool) → are_safe cs ≡ true → IsDocument d → apply cs d moment on_insert ≡ Ok r → IsDocument r
 stays_document cs d r moment on_insert safe doc e =
-    let k : Kept d r = onward_kept (applied moment on_insert cs d) within_limits d r e (λ u q. applied_kept moment on_insert cs d u safe doc.names q) (λ u f q. limits_kept (broken u) u r f q) in
+    let k : Kept d r = kept_whole cs d r moment on_insert safe doc e in
     record { id = has_id (id_in d) (id_in r) k.id doc.id; names = k.free }
   where
     has_id : (a b : Option Tree) → b ≡ a → MatchOption a ⊥ IsId → MatchOption b ⊥ IsId

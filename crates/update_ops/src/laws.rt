@@ -3,11 +3,13 @@ ghost use Rattle.std.specs.Prelude.{◌≡◌, ◌++◌, ◌∷◌, [], ℕ, ℤ
 ghost use Rattle.json_tree.specs.Tree.{Tree, Elements, Members, null, number, list, object, list_of_members};
 ghost use Rattle.json_tree.specs.Num.{IsNumber};
 ghost use Rattle.json_tree.specs.Members.{all_distinct};
+ghost use Rattle.json_tree.specs.Doc.{IsDocument, id_in};
 ghost use Rattle.doc_paths.specs.Text.{parts};
 ghost use Rattle.doc_paths.specs.At.{at, inside};
 ghost use Rattle.doc_limits.specs.Limits.{broken};
 ghost use Rattle.update_ops.specs.Forms.{is_scalar};
 ghost use Rattle.update_ops.specs.Clauses.{Clause};
+ghost use Rattle.update_ops.specs.Safe.{are_safe};
 ghost use Rattle.update_ops.specs.Steady.{are_steady};
 ghost use Rattle.update_ops.specs.Faults.{overlap_in, paths_of};
 ghost use Rattle.update_ops.specs.Apply.{apply};
@@ -15,6 +17,12 @@ ghost use Rattle.update_ops.specs.Single.{alone};
 
 use doc_paths::{puts_are_seen, takes_are_seen};
 use json_tree::same_decides;
+
+/// An update of a document leaves its id as it is, and what it makes breaks no limit.
+pub fn ids_are_kept()
+    ensures id { (cs : List Clause) (d new : Tree) (moment : ℤ) (on_insert : Bool) → are_safe cs ≡ true → IsDocument d → apply cs d moment on_insert ≡ Ok new → id_in new ≡ id_in d }
+    ensures limits { (cs : List Clause) (d new : Tree) (moment : ℤ) (on_insert : Bool) → apply cs d moment on_insert ≡ Ok new → broken new ≡ None }
+{}
 
 /// What was set stands at its path.
 pub fn sets_are_seen()

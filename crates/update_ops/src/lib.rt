@@ -30,7 +30,8 @@ mod rows;
 pub use fault::UpdateFault;
 pub use inserting::{Equality, upsert_replacement};
 pub use laws::{
-    increments_are_undone, sets_are_seen, steady_updates_settle, twice_is_once, unsets_are_seen,
+    ids_are_kept, increments_are_undone, sets_are_seen, steady_updates_settle, twice_is_once,
+    unsets_are_seen,
 };
 pub use operator::Operator;
 pub use replacing::{is_replacement, replaced};

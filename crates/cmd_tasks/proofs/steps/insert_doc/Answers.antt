@@ -25,10 +25,10 @@ pub returns-in-Written-clause-steps : goal.returns-in-Written-clause-steps
 returns-in-Written-clause-steps g c = λ d d_is. let told = c.in-Written.ensures.answers in wrote_here c.args.by _ _ _ _ c.in-Written.at c.in-Written.tx _ _ _ _ told.0.1 told.0.0
 
 pub returns-in-Written-clause-leads : goal.returns-in-Written-clause-leads
-returns-in-Written-clause-leads g c = λ d d_is base told_base trace placed way.
+returns-in-Written-clause-leads g c = λ d d_is base told_base moment trace placed way.
     let earlier = sights c.args.store.now.journal trace in
     let told = c.in-Written.ensures.answers in
-    written_leads base c.args.coll.now c.args.by d c.args.insertion.doc c.args.insertion.ids.key earlier c.args.store.now.journal c.write.new.self.journal c.in-Written.at c.in-Written.tx (Inserted c.args.insertion.ids.reply)
+    written_leads base c.args.coll.now c.args.by moment d c.args.insertion.doc c.args.insertion.ids.key earlier c.args.store.now.journal c.write.new.self.journal c.in-Written.at c.in-Written.tx (Inserted c.args.insertion.ids.reply)
     d_is c.requires.ids.0 way told.0.1 told.0.0 (told.2 base told_base).1 c.requires.ids.2
 
 pub taken-requires : goal.taken-requires
@@ -41,12 +41,12 @@ returns-in-Lost-clause-steps g c = λ d d_is.
     taken_steps c.args.by _ _ _ _ (Inserting d) c.in-Lost.at f.0 (Refuses (errors.already_exists c.args.insertion.ids.key f.0)) c.taken.result told.0.1 told.0.0 (c.taken.ensures f.0 f.1)
 
 pub returns-in-Lost-clause-leads : goal.returns-in-Lost-clause-leads
-returns-in-Lost-clause-leads g c = λ d d_is base told_base trace placed way.
+returns-in-Lost-clause-leads g c = λ d d_is base told_base moment trace placed way.
     let earlier = sights c.args.store.now.journal trace in
     let told = c.in-Lost.ensures.answers in
     let f = found_one c.in-Lost.found told.1 in
     let key_is : c.args.insertion.ids.key ≡ id_of (tree d) = c.requires.ids.0 ∙ ap id_of (sym d_is) in
-    lost_leads base c.args.coll.now c.args.by d earlier c.args.store.now.journal c.write.new.self.journal c.in-Lost.at f.0 c.in-Lost.found c.taken.result way told.0.1 told.0.0 f.1
+    lost_leads base c.args.coll.now c.args.by moment d earlier c.args.store.now.journal c.write.new.self.journal c.in-Lost.at f.0 c.in-Lost.found c.taken.result way told.0.1 told.0.0 f.1
     (subst (λ (i : Tree). number_at (replay base c.args.store.now.journal) c.args.coll.now i ≡ c.in-Lost.found) key_is (told.2 base told_base).1)
     (subst (λ (i : Tree). EndsSo (Lost c.in-Lost.at 0 (Some f.0)) (Refuses (errors.already_exists i f.0)) c.taken.result) key_is (c.taken.ensures f.0 f.1))
 
@@ -56,10 +56,10 @@ returns-in-NoCollection-clause-steps g c = λ d d_is.
     marked_steps c.args.by _ _ _ _ (Inserting d) c.in-NoCollection.at (Some c.args.insertion.ids.key) (Some c.args.insertion.ids.twin) (Refuses (errors.no_collection c.args.coll.now)) c.marked.result told.0.1 told.0.0 (c.marked.ensures (errors.no_collection c.args.coll.now) (search rules))
 
 pub returns-in-NoCollection-clause-leads : goal.returns-in-NoCollection-clause-leads
-returns-in-NoCollection-clause-leads g c = λ d d_is base told_base trace placed way.
+returns-in-NoCollection-clause-leads g c = λ d d_is base told_base moment trace placed way.
     let earlier = sights c.args.store.now.journal trace in
     let told = c.in-NoCollection.ensures.answers in
-    marked_leads base c.args.coll.now c.args.by d earlier c.args.store.now.journal c.write.new.self.journal c.in-NoCollection.at c.args.insertion.ids.key c.args.insertion.ids.twin (errors.no_collection c.args.coll.now) c.marked.result
+    marked_leads base c.args.coll.now c.args.by moment d earlier c.args.store.now.journal c.write.new.self.journal c.in-NoCollection.at c.args.insertion.ids.key c.args.insertion.ids.twin (errors.no_collection c.args.coll.now) c.marked.result
     (c.requires.ids.0 ∙ ap id_of (sym d_is)) (c.requires.ids.1 ∙ ap id_of (sym d_is)) way told.0.1 told.0.0 (inl (told.1 base told_base, refl)) (c.marked.ensures (errors.no_collection c.args.coll.now) (search rules))
 
 pub returns-in-VersionsSpent-clause-steps : goal.returns-in-VersionsSpent-clause-steps
@@ -68,10 +68,10 @@ returns-in-VersionsSpent-clause-steps g c = λ d d_is.
     marked_steps c.args.by _ _ _ _ (Inserting d) c.in-VersionsSpent.at (Some c.args.insertion.ids.key) (Some c.args.insertion.ids.twin) (Refuses errors.versions_spent) c.marked-in-VersionsSpent.result told.0.1 told.0.0 (c.marked-in-VersionsSpent.ensures errors.versions_spent c.versions_spent.ensures)
 
 pub returns-in-VersionsSpent-clause-leads : goal.returns-in-VersionsSpent-clause-leads
-returns-in-VersionsSpent-clause-leads g c = λ d d_is base told_base trace placed way.
+returns-in-VersionsSpent-clause-leads g c = λ d d_is base told_base moment trace placed way.
     let earlier = sights c.args.store.now.journal trace in
     let told = c.in-VersionsSpent.ensures.answers in
-    marked_leads base c.args.coll.now c.args.by d earlier c.args.store.now.journal c.write.new.self.journal c.in-VersionsSpent.at c.args.insertion.ids.key c.args.insertion.ids.twin errors.versions_spent c.marked-in-VersionsSpent.result
+    marked_leads base c.args.coll.now c.args.by moment d earlier c.args.store.now.journal c.write.new.self.journal c.in-VersionsSpent.at c.args.insertion.ids.key c.args.insertion.ids.twin errors.versions_spent c.marked-in-VersionsSpent.result
     (c.requires.ids.0 ∙ ap id_of (sym d_is)) (c.requires.ids.1 ∙ ap id_of (sym d_is)) way told.0.1 told.0.0 (inr (c.journal_len.ensures.next base told_base ∙ told.1, refl)) (c.marked-in-VersionsSpent.ensures errors.versions_spent c.versions_spent.ensures)
 
 pub returns-in-Fault-clause-steps : goal.returns-in-Fault-clause-steps
@@ -80,7 +80,7 @@ returns-in-Fault-clause-steps g c = λ d d_is.
     failed_steps c.args.by _ _ _ _ (Inserting d) c.in-Fault.at c.in-Fault.before c.in-Fault.after (Refuses (errors.store_fault c.in-Fault.before c.in-Fault.after)) c.failed.result told.entered told.point told.rose told.before_is told.count_is c.failed.ensures
 
 pub returns-in-Fault-clause-leads : goal.returns-in-Fault-clause-leads
-returns-in-Fault-clause-leads g c = λ d d_is base told_base trace placed way.
+returns-in-Fault-clause-leads g c = λ d d_is base told_base moment trace placed way.
     let earlier = sights c.args.store.now.journal trace in
     let told = c.in-Fault.ensures.answers in
-    failed_leads base c.args.coll.now c.args.by d earlier c.args.store.now.journal c.write.new.self.journal c.in-Fault.at c.in-Fault.before c.in-Fault.after c.failed.result way told.entered told.point c.failed.ensures
+    failed_leads base c.args.coll.now c.args.by moment d earlier c.args.store.now.journal c.write.new.self.journal c.in-Fault.at c.in-Fault.before c.in-Fault.after c.failed.result way told.entered told.point c.failed.ensures

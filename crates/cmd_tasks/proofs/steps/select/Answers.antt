@@ -10,11 +10,11 @@ returns-in-Shown-clause-steps g c =
     select_steps c.args.by _ _ _ _ c.args.wanted c.args.last c.in-Shown.item c.in-Shown.rows c.in-Shown.rows.items c.in-Shown.last c.selected.result c.requires.wanted c.in-Shown.ensures.made (subst (λ (l : List Version). Selects c.args.wanted c.in-Shown.item l c.in-Shown.last c.selected.result) c.deref.ensures.value c.selected.ensures)
 
 pub returns-in-Shown-clause-leads : goal.returns-in-Shown-clause-leads
-returns-in-Shown-clause-leads g c = λ base told_base trace placed way.
+returns-in-Shown-clause-leads g c = λ base told_base moment trace placed way.
     let earlier = sights c.args.store.now.journal trace in
-    select_leads base c.args.coll.now c.args.by c.args.wanted c.args.last c.glance.new.store.journal earlier c.in-Shown.item c.in-Shown.rows c.in-Shown.rows.items c.in-Shown.last c.selected.result refl way (c.in-Shown.ensures.told base told_base) (subst (λ (l : List Version). Selects c.args.wanted c.in-Shown.item l c.in-Shown.last c.selected.result) c.deref.ensures.value c.selected.ensures)
+    select_leads base c.args.coll.now c.args.by moment c.args.wanted c.args.last c.glance.new.store.journal earlier c.in-Shown.item c.in-Shown.rows c.in-Shown.rows.items c.in-Shown.last c.selected.result refl way (c.in-Shown.ensures.told base told_base) (subst (λ (l : List Version). Selects c.args.wanted c.in-Shown.item l c.in-Shown.last c.selected.result) c.deref.ensures.value c.selected.ensures)
 
 pub returns-in-Ended-clause-leads : goal.returns-in-Ended-clause-leads
-returns-in-Ended-clause-leads g c = λ base told_base trace placed way.
+returns-in-Ended-clause-leads g c = λ base told_base moment trace placed way.
     let earlier = sights c.args.store.now.journal trace in
-    select_ended base c.args.coll.now c.args.by c.args.wanted c.args.last c.glance.new.store.journal earlier c.in-Ended.item c.in-Ended.reply way (c.in-Ended.ensures.told base told_base)
+    select_ended base c.args.coll.now c.args.by moment c.args.wanted c.args.last c.glance.new.store.journal earlier c.in-Ended.item c.in-Ended.reply way (c.in-Ended.ensures.told base told_base)

@@ -1,8 +1,12 @@
 use Rattle.std.proofs.Common.{rules, refl, sym, subst, ◌≡◌, ◌+◌, ◌<◌, ◌≤◌, ℕ, true, Result, Ok, Err, arith}
 use Rattle.std.specs.Prelude.{OnOk, is_ok}
 use Rattle.reply_env.specs.declared.reply.Reply.TheVariants.{NoMemory}
+use Rattle.cmd_tasks.specs.Moves.{IsUnderWay}
+use Rattle.cmd_tasks.specs.Served.{sights}
 use Rattle.cmd_tasks.specs.Stands.{StandsOn}
+use Rattle.cmd_tasks.specs.declared.work.State.{State}
 use Rattle.cmd_tasks.proofs.Standing.{stands_on, served_so, cut_so, done_so}
+use Rattle.cmd_tasks.proofs.Rounds.{fits_so}
 use Rattle.cmd_tasks.proofs.task.Task.step.Goals as goal
 
 room : {X E : Type 0} (r : Result X E) (n cap : ℕ) → is_ok r ≡ true → OnOk r (n + 1 ≤ cap) → n < cap
@@ -22,7 +26,7 @@ returns-then-is_err-clause-done g c = λ d. done_so c.replace-state.new.dest _ (
 pub returns-in-Goes-clause-more : goal.returns-in-Goes-clause-more
 returns-in-Goes-clause-more g c = λ m. (
   subst (λ b. StandsOn b c.advance.new.store.journal (record c.args.self.now { trace = record c.args.self.now.trace { items = c.push_reserved.new.self }; state = c.in-Goes.state })) (sym c.in-Goes.ensures.base.1)
-      (stands_on _ _ _ _ _ c.args.self.now c.replace-state.result c.in-Goes.state c.in-Goes.item (record c.args.self.now.trace { items = c.push_reserved.new.self }) c.requires.stands (search rules) (search rules) c.in-Goes.ensures.steps c.in-Goes.ensures.leads),
+      (stands_on _ _ _ _ _ c.args.self.now c.replace-state.result c.in-Goes.state c.in-Goes.item c.push_reserved.new.self c.requires.stands (search rules) (search rules) c.in-Goes.ensures.steps c.in-Goes.ensures.leads),
   search rules,
 )
 
@@ -32,3 +36,10 @@ returns-in-Ends-clause-done g c = λ d. served_so _ _ _ _ _ c.args.self.now c.re
 pub returns-in-NoMemory-clause-done : goal.returns-in-NoMemory-clause-done
 returns-in-NoMemory-clause-done g c = λ d. done_so c.replace-state.new.dest _ (NoMemory 0) c.replace-state.ensures.after
     (cut_so _ _ _ c.args.self.now c.reserve.new.self.items c.requires.stands c.in-NoMemory.ensures.steps c.reserve.ensures.items)
+
+pub advance-requires-clause-fits : goal.advance-requires-clause-fits
+advance-requires-clause-fits g c = λ base told.
+    let lawful = c.journal_len.ensures.lawful base told in
+    let task = c.args.self.now in
+    fits_so c.numbers_are_given_once.ensures base task.coll task.session task.trace.moment c.replace-state.result c.args.store.now.journal task.trace.items.items c.requires.stands.placed lawful.0 (c.journal_len.ensures.apart base told) lawful.1
+    (subst (λ (w : State). IsUnderWay base task.coll task.session task.trace.moment w (sights c.args.store.now.journal task.trace.items.items)) (search rules) (c.requires.stands.under_way base told))
