@@ -289,8 +289,8 @@ module _ (base : Base) (coll : Name) (k : ℕ) (moment : ℤ) (u : Updating) whe
     chooses s attempt = (way.0.0, way.0.1, match_some (chosen base coll k f earlier) kept.x _ _ kept.is (d, kept.makes, (kept.seen.look, (0, ap (λ (l : List Sight). slice_get l 0) kept.seen.rounds), kept.seen.shows, attempt)))
 
     pub change_written : GivenOnce → IsOld base → (H' : List Entry) (at tx : ℕ) (key : Tree) → key ≡ id_of d → H' ≡ H ++ Changed k coll key (Update u.updates u.moment d) (Some read) tx ∷ [] → at ≡ length H
-        → number_at (replay base H) coll key ≡ Some read → Serves base coll k moment (updating u) (sight H' (Wrote at) ∷ earlier) (reply.Updated 1 1)
-    change_written once old H' at tx key key_is longer here stands =
+        → number_at (replay base H) coll key ≡ Some read → (r : Reply) → r ≡ reply.Updated 1 1 → Serves base coll k moment (updating u) (sight H' (Wrote at) ∷ earlier) r
+    change_written once old H' at tx key key_is longer here stands r told =
         let e : Entry = Changed k coll key (Update u.updates u.moment d) (Some read) tx in
         let past = saw_before H H' e at longer here in
         let id_is : key ≡ kept.x.id = key_is ∙ sym kept.same_id in
@@ -300,7 +300,7 @@ module _ (base : Base) (coll : Name) (k : ℕ) (moment : ℤ) (u : Updating) whe
           stands = ap (λ (l : List Entry). version (replay base l) coll kept.x.id) past ∙ (v.1 ∙ ap (λ (z : Version). Some z) same);
           wrote = (ap Wrote (here ∙ sym (ap length past)), (tx, saw_entry H H' e at longer here ∙ (λ j. Some (Changed k coll (id_is j) (Update u.updates (kept.kept.moment_is j) d) (Some (sym kept.number j)) tx))));
         } in
-        inl (chooses (sight H' (Wrote at)) (inl won), inl ((let a = way.0.1.0 in omega arith), refl))
+        inl (chooses (sight H' (Wrote at)) (inl won), inl ((let a = way.0.1.0 in omega arith), told))
 
     pub loses_leads : Touched → (H' : List Entry) (at : ℕ) (found : Option ℕ) (key : Tree) (o : Moved) → key ≡ id_of d → H' ≡ H → at ≡ length H → found ≢ Some read → number_at (replay base H) coll key ≡ found → LosesTo at read found u o
         → Leads base coll k moment H' (Changing u read d) earlier o

@@ -6,7 +6,6 @@ ghost use Rattle.store_core.specs.declared.entry.Entry.{Entry as Journaled};
 ghost use Rattle.cmd_tasks.specs.Stands.{StandsOn};
 ghost use Rattle.cmd_grammar.specs.Commands.{command_tree, IsAskable};
 
-use crate::laws::others_may_append;
 use crate::run::serve;
 use crate::task::{Next, Served, Task};
 use crate::trace::{Item, Trace};
@@ -100,6 +99,23 @@ fn rewritten(alloc: Global, store: &mut Store<MemKeeper>, session: u64) -> Resul
     Ok(true)
 }
 
+// The same, where it is to be done now.
+fn rewritten_if(
+    now: bool,
+    alloc: Global,
+    store: &mut Store<MemKeeper>,
+    session: u64,
+) -> Result<bool, Fail>
+    requires known { session < opened_in store.old.journal }
+    ensures grown { (more : List Journaled) × (store.new.journal ≡ store.old.journal ++ more) × AllBy session more }
+    ensures base { SameBase store.old store.new }
+{
+    if now {
+        return rewritten(alloc, store, session);
+    }
+    Ok(false)
+}
+
 // The steps of a task, behind whose first looks another session writes, so many times.
 fn contended(
     alloc: Global,
@@ -112,15 +128,13 @@ fn contended(
     requires apart { task.session ≢ other }
     requires stands { StandsOn store.old.start store.old.journal task }
 {
-    others_may_append();
     let mut task = task;
     'steps: for i in 0..12 {
-        if let Next::Done = task.step(alloc, store) {
-            return Ok(Some(task.into_served()));
+        match task.step(alloc, store) {
+            Next::More => {}
+            Next::Done => return Ok(Some(task.into_served())),
         }
-        if i % 2 == 0 && i / 2 < times {
-            rewritten(alloc, store, other)?;
-        }
+        rewritten_if(i % 2 == 0 && i / 2 < times, alloc, store, other)?;
     }
     Ok(None)
 }
@@ -260,23 +274,37 @@ fn requests_see_and_do_what_they_say(rt: HostRuntime) -> Result<(), Fail> {
 }
 
 // An update of the one document, behind whose first looks another session writes, so many times.
+fn updated(
+    alloc: Global,
+    store: &mut Store<MemKeeper>,
+    session: u64,
+    other: u64,
+    times: usize,
+) -> Result<Option<Served>, Fail>
+    requires known { (session < opened_in store.old.journal) × (other < opened_in store.old.journal) }
+    requires apart { session ≢ other }
+{
+    let coll = CollName::read(alloc, "c")?;
+    let Some(command) = command_of(alloc, INCREMENT)? else {
+        return Ok(None);
+    };
+    let task = Task::new(alloc, session, coll, 0, command);
+    contended(alloc, store, task, other, times)
+}
+
+// The same by two sessions that are opened for it.
 fn raced(
     alloc: Global,
     store: &mut Store<MemKeeper>,
     times: usize,
 ) -> Result<Option<Served>, Fail> {
-    let coll = CollName::read(alloc, "c")?;
-    let Some(command) = command_of(alloc, INCREMENT)? else {
-        return Ok(None);
-    };
     let Ok(other) = store.open_session(alloc) else {
         return Ok(None);
     };
-    let Ok(session) = store.open_session(alloc) else {
-        return Ok(None);
-    };
-    let task = Task::new(alloc, session, coll, 0, command);
-    contended(alloc, store, task, other, times)
+    match store.open_session(alloc) {
+        Ok(session) => updated(alloc, store, session, other, times),
+        Err(_) => Ok(None),
+    }
 }
 
 // The items of a trace, each with its point.

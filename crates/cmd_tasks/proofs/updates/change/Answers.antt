@@ -24,7 +24,7 @@ write-requires-clause-new g c = (sym c.in-Ok.ensures.0, c.requires.limits)
 pub write-requires-clause-made : goal.write-requires-clause-made
 write-requires-clause-made g c = λ base told.
     let fits : SFits w64 c.args.update.moment = search rules in
-    subst (λ (n : ℤ). IsMadeOfRead (Update c.in-Ok-try_copy.updates n c.args.doc) (Some c.args.read) (version (replay base c.args.store.now.journal) c.args.coll.now c.in-Ok.ids.key)) (sym (to_z-of_z w64 c.args.update.moment fits))
+    subst (λ (n : ℤ). IsMadeOfRead (Update c.in-Ok-try_copy.updates n c.args.doc) (Some c.args.read) (version (replay base c.args.store.now.journal) c.args.coll.now c.in-Ok.ids.key)) (sym (to_z-of_z fits))
     (subst (λ (z : Tree × List Clause). IsMadeOfRead (Update z.1 c.args.update.moment c.args.doc) (Some c.args.read) (version (replay base c.args.store.now.journal) c.args.coll.now z.0))
     (λ j. (sym c.in-Ok.ensures.0 j, sym c.in-Ok-try_copy.ensures.ok j)) (c.requires.fits base told))
 
@@ -38,8 +38,8 @@ returns-in-Written-clause-leads g c = λ base told_base moment trace placed way.
     let fits : SFits w64 c.args.update.moment = search rules in
     change_written base c.args.coll.now c.args.by moment c.args.update c.args.read c.args.doc c.args.store.now.journal trace placed lawful.0 (c.journal_len.ensures.apart base told_base) way c.numbers_are_given_once.ensures lawful.1
     c.write.new.self.journal c.in-Written.at c.in-Written.tx c.in-Ok.ids.key c.in-Ok.ensures.0
-    (told.0.1 ∙ (λ j. c.args.store.now.journal ++ Changed c.args.by c.args.coll.now c.in-Ok.ids.key (Update (c.in-Ok-try_copy.ensures.ok j) (to_z-of_z w64 c.args.update.moment fits j) c.args.doc) (Some c.args.read) c.in-Written.tx ∷ []))
-    told.0.0 (told.2 base told_base).1
+    (told.0.1 ∙ (λ j. c.args.store.now.journal ++ Changed c.args.by c.args.coll.now c.in-Ok.ids.key (Update (c.in-Ok-try_copy.ensures.ok j) (to_z-of_z fits j) c.args.doc) (Some c.args.read) c.in-Written.tx ∷ []))
+    told.0.0 (told.2 base told_base).1 c.updated.result c.updated.ensures
 
 pub returns-in-Lost-clause-steps : goal.returns-in-Lost-clause-steps
 returns-in-Lost-clause-steps g c =
