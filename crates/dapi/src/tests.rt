@@ -163,6 +163,84 @@ line 1 is not a request
 ---
 "#;
 
+// Updates: what they make, what they are refused for, and what a failed call of the keeper leaves.
+const UPDATES: &str = r#"run --collection=c
+/v1/ks/c {"updateOne":{"update":{"$set":{"a.b":1,"a":2}}}}
+/v1/ks/c {"updateOne":{"update":{"$set":{"a":2}},"options":{"upsert":true}}}
+/v1/ks/c {"updateOne":{"update":{"$set":{"a":2}},"options":{}}}
+/v1/ks/c {"insertOne":{"document":{"_id":"a","s":"x"}}}
+/v1/ks/c {"updateOne":{"update":{"$inc":{"s":1}}}}
+/v1/ks/c {"updateOne":{"update":{"$set":{"s":"x"}}}}
+/v1/ks/c {"insertOne":{"document":{"_id":"a"}}}
+/v1/ks/c {"updateOne":{"filter":{"s":"y"},"update":{"$set":{"s":"z"}}}}
+/v1/ks/c {"updateOne":{"update":{"$set":{"t":1}}}}
+/v1/ks/c {"insertOne":{"document":{"_id":"a"}}}
+/v1/ks/c {"updateOne":{"update":{"$set":{"t.u":1}}}}
+/v1/ks/zz {"updateOne":{"update":{"$set":{"t":1}}}}
+=> 0
+{"errors":[{"message":"Update paths conflict: a.b and a","errorCode":"UNSUPPORTED_UPDATE_OPERATION_PARAM"}]}
+{"errors":[{"message":"Command field invalid: options.upsert","errorCode":"COMMAND_FIELD_INVALID"}]}
+{"status":{"matchedCount":0,"modifiedCount":0}}
+{"status":{"insertedIds":["a"]}}
+{"errors":[{"message":"Update target is of the wrong kind at s","errorCode":"UNSUPPORTED_UPDATE_OPERATION_TARGET"}]}
+{"status":{"matchedCount":1,"modifiedCount":0}}
+{"errors":[{"message":"Document \"a\" already exists at version 1","errorCode":"DOCUMENT_ALREADY_EXISTS"}]}
+{"status":{"matchedCount":0,"modifiedCount":0}}
+{"status":{"matchedCount":1,"modifiedCount":1}}
+{"errors":[{"message":"Document \"a\" already exists at version 2","errorCode":"DOCUMENT_ALREADY_EXISTS"}]}
+{"errors":[{"message":"Update target is of the wrong kind at t.u","errorCode":"UNSUPPORTED_UPDATE_OPERATION_TARGET"}]}
+{"errors":[{"message":"Collection zz does not exist","errorCode":"COLLECTION_NOT_EXIST"}]}
+---
+run --collection=c
+/v1/ks/c {"insertOne":{"document":{"_id":"l","v":[1,2,3],"e":[],"m":10000000000000000000}}}
+/v1/ks/c {"updateOne":{"update":{"$push":{"v":{"$each":[8,9],"$position":-1}}}}}
+/v1/ks/c {"updateOne":{"update":{"$addToSet":{"v":2}}}}
+/v1/ks/c {"updateOne":{"update":{"$pop":{"e":1}}}}
+/v1/ks/c {"updateOne":{"update":{"$mul":{"m":10000000000000000000}}}}
+/v1/ks/c {"updateOne":{"update":{"$unset":{"m":1},"$rename":{"e":"k.n"}}}}
+/v1/ks/c {"findOne":{}}
+=> 0
+{"status":{"insertedIds":["l"]}}
+{"status":{"matchedCount":1,"modifiedCount":1}}
+{"status":{"matchedCount":1,"modifiedCount":0}}
+{"status":{"matchedCount":1,"modifiedCount":0}}
+{"errors":[{"message":"Number is out of range at m","errorCode":"NUMBER_OUT_OF_RANGE"}]}
+{"status":{"matchedCount":1,"modifiedCount":1}}
+{"data":{"document":{"_id":"l","v":[1,2,8,9,3],"k":{"n":[]}}}}
+---
+run --collection=c
+/v1/ks/c {"insertOne":{"document":{"_id":"order-1001","customer":{"name":"Ada Lovelace","city":"London"},"items":[{"sku":"A-1","qty":2,"price":19.99}],"placed":{"$date":1700000000000},"paid":false}}}
+/v1/ks/c {"updateOne":{"filter":{"_id":"order-1001"},"update":{"$inc":{"items.0.qty":1},"$set":{"paid":true}}}}
+/v1/ks/c {"findOne":{"filter":{"customer.city":"London","items.0.qty":{"$gte":3},"placed":{"$gt":{"$date":1690000000000}}}}}
+/v1/ks/c {"updateOne":{"update":{"$currentDate":{"at":true},"$unset":{"customer":1,"items":1,"placed":1}}}}
+/v1/ks/c {"findOne":{}}
+=> 0
+{"status":{"insertedIds":["order-1001"]}}
+{"status":{"matchedCount":1,"modifiedCount":1}}
+{"data":{"document":{"_id":"order-1001","customer":{"name":"Ada Lovelace","city":"London"},"items":[{"sku":"A-1","qty":3,"price":19.99}],"placed":{"$date":1700000000000},"paid":true}}}
+{"status":{"matchedCount":1,"modifiedCount":1}}
+{"data":{"document":{"_id":"order-1001","paid":true,"at":{"$date":1700000000001}}}}
+---
+run --collection=c | keeper=5
+/v1/ks/c {"insertOne":{"document":{"_id":"a","n":0}}}
+/v1/ks/c {"updateOne":{"update":{"$inc":{"n":1}}}}
+/v1/ks/c {"findOne":{}}
+=> 0
+{"status":{"insertedIds":["a"]}}
+{"errors":[{"message":"Store fault: 0 then 1","errorCode":"STORE_FAULT"}]}
+{"data":{"document":{"_id":"a","n":0}}}
+---
+run --collection=c | last=9223372036854775805
+/v1/ks/c {"insertOne":{"document":{"_id":"a"}}}
+/v1/ks/c {"updateOne":{"update":{"$set":{"n":1}}}}
+/v1/ks/c {"updateOne":{"update":{"$unset":{"n":1}}}}
+=> 0
+{"status":{"insertedIds":["a"]}}
+{"errors":[{"message":"No version numbers are left","errorCode":"VERSIONS_SPENT"}]}
+{"status":{"matchedCount":1,"modifiedCount":0}}
+---
+"#;
+
 const WORDS: &str = r#"
 => 1
 usage: dapi run|mix|gen N SEED|check|serve --listen=A [options]
@@ -575,7 +653,7 @@ fn is_answered(
     let mut source = MemSource::new(input, piece.max(1) as usize, reads_fail);
     let mut sink = MemSink::new(alloc, row.settings.room as usize, writes_fail)?;
     let mut notes = MemSink::new(alloc, 100, Vec::new(alloc))?;
-    let mut clock = ListClock::new(Vec::new(alloc));
+    let mut clock = ListClock::new(Vec::from_array(alloc, [1_700_000_000_001])?);
     let words = words.as_slice();
     let (status, keeper) = dapi(
         alloc,
@@ -624,7 +702,7 @@ fn first_wrong<'a>(alloc: Global, rows: &'a str) -> Result<&'a str, Fail> {
 
 #[test]
 fn calls_write_what_they_have_to(rt: HostRuntime) -> Result<(), Fail> {
-    for rows in [REQUESTS, WORDS, STREAMS, RETURNS] {
+    for rows in [REQUESTS, UPDATES, WORDS, STREAMS, RETURNS] {
         assert_eq!(rt; first_wrong(rt.alloc(), rows)?, "");
     }
     Ok(())
