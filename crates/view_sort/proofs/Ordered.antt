@@ -1,5 +1,5 @@
 -- What was found, sorted by its ranks.
-use Rattle.std.proofs.Common.{◌≡◌, ◌+◌, ℕ, Bool, true, false, List, [], ◌∷◌, map, take, get_or, is_lt, Ordering, Less, Equal, Greater, IsPermutation, IsSorted, sym, refl, subst, ◌∙◌, ap, ap₂, arith, Result, Ok, Err, IfOk}
+use Rattle.std.proofs.Common.{◌≡◌, ◌+◌, ℕ, Bool, true, false, List, [], ◌∷◌, map, get_or, is_lt, Ordering, Less, Equal, Greater, IsPermutation, IsSorted, sym, refl, subst, ◌∙◌, ap, ap₂, arith, Result, Ok, Err, IfOk}
 use Rattle.std.specs.List.{AllByRecursion, All}
 use Rattle.std.specs.Ordering.{ordering_then, on}
 use Rattle.std.specs.Cmp.Lexicographic.{slice_cmp}

@@ -10,29 +10,12 @@ ghost use Rattle.view_sort.specs.Walk.{is_nil, shown_pairs, with_put, seen};
 ghost use Rattle.view_sort.specs.declared.fault.ViewFault.TheVariants.{NoMemory};
 
 use crate::fault::ViewFault;
-use crate::part::first_part;
+use crate::groups::{groups_of, taken};
 use crate::projection::{Projection, Rule, is_id};
+use crate::rest::Rest;
 use crate::show::Show;
 use json_tree::{Doc, Items, Members, ObjectBuilder, Text, Value};
 use std::alloc::Global;
-use std::marker::Model;
-
-/// What is left of a rule's path, and what is said there.
-#[derive(Drop)]
-pub struct Rest<'a> {
-    left: Option<&'a str>,
-    show: Show,
-}
-
-impl<'a> Model for Rest<'a> {
-    ghost use Rattle.std.specs.Prelude.{ℕ, List, option_map};
-    ghost use Rattle.doc_paths.specs.Text.{base_parts};
-    ghost use Rattle.view_sort.specs.declared.show.Show.{Show};
-
-    ghost Value = { List (List ℕ) × Show };
-
-    ghost view = { λ r. (base_parts (option_map (λ t. t.now) r.left), r.show) };
-}
 
 fn names_id(rules: &[Rule]) -> bool
     ensures { result ≡ list_any (λ r. is_id r.0) rules.now }
@@ -116,39 +99,6 @@ fn whole_rests<'a>(alloc: Global, rules: &'a [Rule]) -> Result<Vec<Rest<'a>>, Vi
         rests.push(rest_of(rule))?;
     }
     Ok(rests)
-}
-
-fn step<'a>(rest: &Rest<'a>, name: &str) -> Option<Rest<'a>>
-    ensures { MatchOption result (step name.now rest.now ≡ []) (λ r. step name.now rest.now ≡ r ∷ []) }
-{
-    let Some(text) = rest.left else {
-        return None;
-    };
-    let (part, more) = first_part(text);
-    if part == name {
-        Some(Rest {
-            left: more,
-            show: rest.show,
-        })
-    } else {
-        None
-    }
-}
-
-fn under<'a>(alloc: Global, rests: &[Rest<'a>], name: &str) -> Result<Vec<Rest<'a>>, ViewFault>
-    ensures ok { IfOk result (λ v. v.items ≡ under name.now rests.now) }
-    ensures err { IfErr result (λ e. e ≡ NoMemory) }
-{
-    let mut inner = Vec::new(alloc);
-    for i in 0..rests.len() {
-        let Some(rest) = rests.get(i) else {
-            unreachable!();
-        };
-        if let Some(next) = step(rest, name) {
-            inner.push(next)?;
-        }
-    }
-    Ok(inner)
 }
 
 fn is_here(rest: &Rest<'_>) -> bool
@@ -295,11 +245,12 @@ fn show_members(
     ensures err { IfErr result (λ e. e ≡ NoMemory) }
 {
     let mut shown = ObjectBuilder::new(alloc);
+    let mut groups = groups_of(alloc, rests, members)?;
     for i in 0..members.len() {
         let Some((name, value)) = members.pair(i) else {
             unreachable!();
         };
-        let inner = under(alloc, rests, name.as_str())?;
+        let inner = taken(alloc, &mut groups, rests, name.as_str())?;
         let part = show_value(alloc, keeps, inner.as_slice(), value)?;
         put_shown(alloc, &mut shown, name, part)?;
     }

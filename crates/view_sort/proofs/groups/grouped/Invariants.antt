@@ -1,0 +1,6 @@
+use Rattle.std.specs.Prelude.{take}
+use Rattle.view_sort.specs.Walk.{IsGrouped}
+use Rattle.view_sort.proofs.groups.grouped.Given as goal
+
+abbrev pub invariant-loop-i : goal.invariant-loop-i
+invariant-loop-i l = IsGrouped (λ v. v.items) l.groups (take l.i l.rests)
