@@ -1,5 +1,6 @@
 -- Commands: a tree that holds no pointer.
-use Rattle.std.specs.Prelude.{◌≡◌, true, List, Option, None}
+use Rattle.std.specs.Prelude.{◌≡◌, ◌<◌, ◌≤◌, ◌^◌, ℕ, true, Bool, List, Option, Some, None, IfSome}
+use Rattle.std.specs.Option.{option_map}
 use Rattle.json_tree.specs.Tree.{Tree}
 use Rattle.json_tree.specs.Doc.{IsDocument}
 use Rattle.json_tree.specs.View.{tree}
@@ -8,21 +9,39 @@ use Rattle.filter_tree.specs.Filters.{FilterTree}
 use Rattle.filter_tree.specs.View.{filter_tree}
 use Rattle.filter_tree.specs.Ready.{is_ready, FilterIsWritable}
 use Rattle.update_ops.specs.Clauses.{Clause}
+use Rattle.view_sort.specs.declared.show.Show.{Show}
+use Rattle.view_sort.specs.declared.page.PageState.{PageState}
 use Rattle.cmd_grammar.specs.declared.command.Command.{Command}
-use Rattle.cmd_grammar.specs.declared.command.Command.TheVariants.{InsertOne, FindOne, CountDocuments, UpdateOne}
+use Rattle.cmd_grammar.specs.declared.command.Command.TheVariants.{InsertOne, FindOne, Find, CountDocuments, UpdateOne}
+
+-- paths by which documents are sorted, each with whether it ascends; none where there is no sort
+abbrev pub SortKeys : Type 0
+SortKeys = List (List ℕ × Bool)
+
+-- paths of a projection, each with what is shown of it; none where the whole document is shown
+abbrev pub Shows : Type 0
+Shows = List (List ℕ × Show)
+
+-- Which part of what matches is shown. The limit is one of all pages together, 0 for none.
+pub record Paging : Type 0 where
+  pub limit : ℕ
+  pub skip : ℕ
+  pub page : Option PageState
 
 pub data CommandTree : Type 0 where
   insert_one : Tree → CommandTree
-  find_one : FilterTree → CommandTree
+  find_one : FilterTree → SortKeys → Shows → CommandTree
+  find : FilterTree → SortKeys → Shows → Paging → CommandTree
   count_documents : FilterTree → CommandTree
-  update_one : FilterTree → List Clause → CommandTree
+  update_one : FilterTree → List Clause → SortKeys → CommandTree
 
 -- the tree that a command of the program is
 abbrev pub command_tree : Command → CommandTree
 command_tree (InsertOne document) = insert_one (tree document)
-command_tree (FindOne filter) = find_one (filter_tree filter)
+command_tree (FindOne filter sort projection) = find_one (filter_tree filter) sort projection
+command_tree (Find filter sort projection limit skip page) = find (filter_tree filter) sort projection (record { limit = limit; skip = skip; page = page })
 command_tree (CountDocuments filter) = count_documents (filter_tree filter)
-command_tree (UpdateOne filter updates) = update_one (filter_tree filter) updates
+command_tree (UpdateOne filter updates sort) = update_one (filter_tree filter) updates sort
 
 -- the filter can be planned, and its operands are written as they are read
 pub record IsAskableFilter (f : FilterTree) : Type 0 where
@@ -34,9 +53,16 @@ pub record IsStorable (t : Tree) : Type 0 where
   pub document : IsDocument t
   pub limits : broken t ≡ None
 
+-- the numbers of a page are within their bounds
+pub record IsAskablePaging (p : Paging) : Type 0 where
+  pub limit : p.limit < 2 ^ 31
+  pub skip : p.skip ≤ 480
+  pub given : IfSome p.page (λ page. page.given < 2 ^ 63)
+
 -- what the store may be asked for
 abbrev pub IsAskable : CommandTree → Type 0
 IsAskable (insert_one t) = IsStorable t
-IsAskable (find_one f) = IsAskableFilter f
+IsAskable (find_one f sort shows) = IsAskableFilter f
+IsAskable (find f sort shows paging) = IsAskableFilter f × IsAskablePaging paging
 IsAskable (count_documents f) = IsAskableFilter f
-IsAskable (update_one f updates) = IsAskableFilter f
+IsAskable (update_one f updates sort) = IsAskableFilter f

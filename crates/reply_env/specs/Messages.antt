@@ -5,7 +5,7 @@ use Rattle.json_tree.specs.Tree.{Tree}
 use Rattle.json_text.specs.Print.{text_of}
 use Rattle.json_text.specs.declared.read.TextFault.{TextFault}
 use Rattle.json_text.specs.declared.read.TextFault.TheVariants.{Syntax, NotUtf8, TooDeep, Number, NoMemory}
-use Rattle.name_tables.specs.declared.code.Code.TheVariants.{InvalidJson, NoCommandMatched, CommandFieldInvalid, InvalidFilterExpression, UnsupportedFilterOperation, UnsupportedUpdateOperation, UnsupportedUpdateOperationParam, UnsupportedUpdateForDocId, UnsupportedUpdateOperationTarget, ShredBadDocidType, ShredBadDocidEmptyString, ShredDocKeyNameViolation, ShredDocLimitViolation, NumberOutOfRange, DocumentAlreadyExists, CollectionNotExist, InvalidCollectionName, KeyspaceNotExist, ConcurrencyFailure, StoreFault, VersionsSpent, OutOfMemory}
+use Rattle.name_tables.specs.declared.code.Code.TheVariants.{InvalidJson, NoCommandMatched, CommandFieldInvalid, InvalidFilterExpression, UnsupportedFilterOperation, UnsupportedUpdateOperation, UnsupportedUpdateOperationParam, UnsupportedUpdateForDocId, UnsupportedUpdateOperationTarget, ShredBadDocidType, ShredBadDocidEmptyString, ShredDocKeyNameViolation, ShredDocLimitViolation, NumberOutOfRange, UnsupportedProjectionParam, InvalidSortClause, InvalidPageState, DatasetTooBig, CommandLimitViolation, DocumentAlreadyExists, CollectionNotExist, InvalidCollectionName, KeyspaceNotExist, ConcurrencyFailure, StoreFault, VersionsSpent, OutOfMemory}
 use Rattle.reply_env.specs.declared.reply.ErrorItem.{ErrorItem}
 use Rattle.reply_env.specs.declared.update_errors.Loss.{Loss}
 
@@ -99,6 +99,25 @@ losses_text (loss ∷ losses) = loss_text loss ++ flat_map (λ l. codes ", " ++ 
 -- writes that were lost to other writers, in the order of the attempts
 abbrev pub lost_writes : List Loss → ErrorItem
 lost_writes losses = record { code = ConcurrencyFailure; message = codes "Lost to other writers: " ++ losses_text losses }
+
+-- ---- what is shown, and in which order
+
+abbrev pub bad_projection : List ℕ → ErrorItem
+bad_projection path = record { code = UnsupportedProjectionParam; message = codes "Projection is invalid at " ++ path }
+
+abbrev pub bad_sort : List ℕ → ErrorItem
+bad_sort path = record { code = InvalidSortClause; message = codes "Sort is invalid at " ++ path }
+
+abbrev pub bad_page_state : ErrorItem
+bad_page_state = record { code = InvalidPageState; message = codes "Page state is invalid" }
+
+-- a member or an option of a command is more than its bound
+abbrev pub command_limit : List ℕ → ℕ → ℕ → ErrorItem
+command_limit field bound found =
+    record { code = CommandLimitViolation; message = codes "Command limit " ++ field ++ codes " is " ++ decimal bound ++ codes ", found " ++ decimal found }
+
+abbrev pub too_many_to_sort : ErrorItem
+too_many_to_sort = record { code = DatasetTooBig; message = codes "More than 10000 documents to sort" }
 
 -- ---- a document
 

@@ -11,7 +11,7 @@ use Rattle.reply_env.specs.declared.reply.ErrorItem.{ErrorItem}
 use Rattle.reply_env.specs.declared.reply.SoFar.{SoFar}
 use Rattle.reply_env.specs.declared.reply.SoFar.TheVariants as so_far
 use Rattle.reply_env.specs.declared.reply.Reply.{Reply}
-use Rattle.reply_env.specs.declared.reply.Reply.TheVariants.{Inserted, Found, Counted, Updated, Refused, NoMemory}
+use Rattle.reply_env.specs.declared.reply.Reply.TheVariants.{Inserted, Found, Listed, Counted, Updated, Refused, NoMemory}
 
 -- the texts of the parts, with commas between
 abbrev pub with_commas : {X : Type 0} → (X → List ℕ) → List X → List ℕ
@@ -22,6 +22,15 @@ with_commas part (x ∷ xs) = part x ++ flat_map (λ y. 44 ∷ part y) xs
 abbrev pub view_text : Option Value → List ℕ
 view_text None = codes "null"
 view_text (Some view) = text_of (tree view)
+
+-- where the next page begins, if there is one
+abbrev pub state_text : Option (List ℕ) → List ℕ
+state_text None = codes "null"
+state_text (Some state) = string_text state
+
+-- documents that were looked for, as they are shown, in their order
+abbrev pub listed_text : List Value → Option (List ℕ) → List ℕ
+listed_text views state = codes "{\"documents\":[" ++ with_commas (λ view. text_of (tree view)) views ++ codes "],\"nextPageState\":" ++ state_text state ++ codes "}"
 
 -- stands only where more matched than were counted
 abbrev pub more_text : Bool → List ℕ
@@ -59,6 +68,7 @@ status_text (Some done) = codes "{\"status\":" ++ so_far_text done ++ codes ","
 abbrev pub reply_text : Reply → List ℕ
 reply_text (Inserted ids) = codes "{\"status\":" ++ inserted_text ids.items ++ codes "}"
 reply_text (Found view) = codes "{\"data\":{\"document\":" ++ view_text view ++ codes "}}"
+reply_text (Listed views state) = codes "{\"data\":" ++ listed_text views.items state ++ codes "}"
 reply_text (Counted count more) = codes "{\"status\":{\"count\":" ++ decimal count ++ more_text more ++ codes "}}"
 reply_text (Updated matched modified) = codes "{\"status\":" ++ updated_text matched modified ++ codes "}"
 reply_text (Refused errors done) = status_text done ++ errors_text errors.items

@@ -8,6 +8,7 @@ mod print;
 mod reply;
 mod request;
 mod update_errors;
+mod view_errors;
 
 pub use errors::{
     already_exists, bad_collection_name, bad_field, bad_filter, bad_id_kind, bad_member_name,
@@ -22,6 +23,9 @@ pub use request::{Place, Request};
 pub use update_errors::{
     Loss, bad_update_operand, id_unchangeable, lost_writes, no_update_operator,
     number_out_of_range, update_conflict, wrong_update_target,
+};
+pub use view_errors::{
+    bad_page_state, bad_projection, bad_sort, command_limit, too_many_to_sort,
 };
 
 #[cfg(test)]

@@ -5,13 +5,13 @@ ghost use Rattle.json_tree.specs.View.{tree};
 ghost use Rattle.json_text.specs.Print.{escaped, string_text, text_of};
 ghost use Rattle.name_tables.specs.Code.{code_text};
 ghost use Rattle.reply_env.specs.Messages.{out_of_memory};
-ghost use Rattle.reply_env.specs.Reply.{with_commas, view_text, more_text, inserted_text, updated_text, error_text, errors_text, so_far_text, status_text, reply_text};
+ghost use Rattle.reply_env.specs.Reply.{with_commas, view_text, state_text as page_text, listed_text, more_text, inserted_text, updated_text, error_text, errors_text, so_far_text, status_text, reply_text};
 
 use crate::fault::ReplyFault;
 use crate::fixed::no_memory_reply;
 use crate::reply::{ErrorItem, Reply, SoFar};
 use json_text::{print_content, print_value};
-use json_tree::{DocId, Value};
+use json_tree::{DocId, Text, Value};
 use std::alloc::{AllocError, Global};
 
 // A number in decimal.
@@ -178,6 +178,52 @@ fn print_view(view: &Option<Value>, out: &mut Vec<u8>) -> Result<(), AllocError>
     }
 }
 
+// The views, with a comma before each.
+fn print_further_views(views: &[Value], out: &mut Vec<u8>) -> Result<(), AllocError>
+    ensures { OnOk result (out.new.items ≡ out.old.items ++ flat_map (λ view. 44 ∷ text_of (tree view)) views.now) }
+{
+    for view in views {
+        out.push(b',')?;
+        print_tree(view, out)?;
+    }
+    Ok(())
+}
+
+fn print_views(views: &[Value], out: &mut Vec<u8>) -> Result<(), AllocError>
+    ensures { OnOk result (out.new.items ≡ out.old.items ++ with_commas (λ view. text_of (tree view)) views.now) }
+{
+    match views {
+        [] => Ok(()),
+        [first, further @ ..] => {
+            print_tree(first, out)?;
+            print_further_views(further, out)
+        }
+    }
+}
+
+fn print_state(state: &Option<Text>, out: &mut Vec<u8>) -> Result<(), AllocError>
+    ensures { OnOk result (out.new.items ≡ out.old.items ++ page_text state.now) }
+{
+    match state {
+        None => out.extend_from_slice(b"null"),
+        Some(state) => print_string(state.as_str(), out),
+    }
+}
+
+fn print_listed(
+    views: &[Value],
+    state: &Option<Text>,
+    out: &mut Vec<u8>,
+) -> Result<(), AllocError>
+    ensures { OnOk result (out.new.items ≡ out.old.items ++ (codes "{\"data\":" ++ listed_text views.now state.now ++ codes "}")) }
+{
+    out.extend_from_slice(b"{\"data\":{\"documents\":[")?;
+    print_views(views, out)?;
+    out.extend_from_slice(b"],\"nextPageState\":")?;
+    print_state(state, out)?;
+    out.extend_from_slice(b"}}")
+}
+
 fn print_more(more: bool, out: &mut Vec<u8>) -> Result<(), AllocError>
     ensures { OnOk result (out.new.items ≡ out.old.items ++ more_text more) }
 {
@@ -246,6 +292,7 @@ fn print_behind(reply: &Reply, out: &mut Vec<u8>) -> Result<(), AllocError>
     match reply {
         Reply::Inserted { ids } => print_insertion(ids.as_slice(), out),
         Reply::Found { view } => print_found(view, out),
+        Reply::Listed { views, state } => print_listed(views.as_slice(), state, out),
         Reply::Counted { count, more } => print_count(*count, *more, out),
         Reply::Updated { matched, modified } => print_update(*matched, *modified, out),
         Reply::Refused { errors, so_far } => print_refused(errors.as_slice(), so_far, out),

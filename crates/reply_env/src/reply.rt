@@ -33,6 +33,11 @@ pub enum Reply {
     Found {
         view: Option<Value>,
     },
+    /// The documents of a page, as they are shown, in their order; `state` names where the next page begins.
+    Listed {
+        views: Vec<Value>,
+        state: Option<Text>,
+    },
     /// So many documents matched; `more` says that more did than are counted.
     Counted {
         count: u64,

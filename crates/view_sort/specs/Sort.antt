@@ -8,6 +8,7 @@ use Rattle.std.specs.Ordering.{on, then_cmp, flip_args, int_eq}
 use Rattle.json_tree.specs.Tree.{Tree, number, object, list_of_members}
 use Rattle.json_tree.specs.Doc.{IsDocument}
 use Rattle.json_tree.specs.Id.{id_cmp}
+use Rattle.sqlite_keyed.specs.Lists.{sort_by}
 use Rattle.doc_paths.specs.Text.{parts, path_fault}
 use Rattle.doc_paths.specs.At.{at}
 use Rattle.shred_cols.specs.Row.{Version, id_of}
@@ -83,6 +84,10 @@ pub record IsFirstOf (sort : List (List ℕ × Bool)) (keep : ℕ) (xs ys : List
   pub sorted : List Version
   pub sorts : IsSortOf sort xs sorted
   pub first : ys ≡ take keep sorted
+
+-- what was found, sorted
+abbrev pub sorted : List (List ℕ × Bool) → List Version → List Version
+sorted sort xs = sort_by (found_cmp sort) xs
 
 -- what was found has ids, and no id twice
 abbrev pub HasIds : List Version → Type 0

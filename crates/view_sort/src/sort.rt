@@ -1,8 +1,8 @@
-ghost use Rattle.std.specs.Prelude.{◌≡◌, ◌↔◌, ◌⊎◌, ◌<◌, ◌≤◌, [], ◌&&◌, if◌then◌else◌, None, Some, length, map, IfOk, IfErr, IsTrue};
+ghost use Rattle.std.specs.Prelude.{◌≡◌, ◌↔◌, ◌⊎◌, ◌<◌, ◌≤◌, [], ◌&&◌, if◌then◌else◌, None, Some, length, map, take, IfOk, IfErr, IsTrue};
 ghost use Rattle.json_tree.specs.View.{tree};
 ghost use Rattle.doc_paths.specs.Text.{IsPath};
 ghost use Rattle.view_sort.specs.Answers.{Answers};
-ghost use Rattle.view_sort.specs.Sort.{is_path, is_direction, ascends, sort_fault, bad_key, sort_in, key_of_member, key_at, IsFirstOf};
+ghost use Rattle.view_sort.specs.Sort.{is_path, is_direction, ascends, sort_fault, bad_key, sort_in, key_of_member, key_at, IsFirstOf, HasIds, sorted};
 ghost use Rattle.view_sort.specs.Rank.{sided_key, all_keys, rank_of, IsSortedFound, IsLeastFound};
 ghost use Rattle.view_sort.specs.declared.fault.ViewFault.TheVariants.{NoMemory, BadSort};
 
@@ -134,6 +134,7 @@ impl Sort {
         keep: usize,
     ) -> Result<Vec<Found>, ViewFault>
         ensures ok { IfOk result (λ first. IsFirstOf self.now keep found.items first.items) }
+        ensures one { HasIds found.items → IfOk result (λ first. first.items ≡ take keep (sorted self.now found.items)) }
         ensures err { IfErr result (λ e. e ≡ NoMemory) }
     {
         let ranked = rank_all(alloc, &self.keys, found)?;
