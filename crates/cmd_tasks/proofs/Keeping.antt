@@ -1,12 +1,14 @@
 -- The first so many of what was found, page by page.
-use Rattle.std.proofs.Common.{◌≡◌, ◌≢◌, ℕ, zero, suc, ◌≤◌, Bool, true, false, cond, List, [], ◌∷◌, ◌++◌, map, take, length, refl, sym, ap, ◌∙◌, subst, arith, Ordering, is_gt, append-nil}
+use Rattle.std.proofs.Common.{◌≡◌, ◌≢◌, ℕ, zero, suc, ◌≤◌, Bool, true, false, cond, List, [], ◌∷◌, ◌++◌, map, take, length, refl, sym, ap, ◌∙◌, subst, arith, Ordering, is_gt, append-nil, Vec, Global, Result, Ok, Err}
+use Rattle.std.specs.Prelude.{◌↔◌, IfOk, IsTrue}
 use Rattle.std.specs.List.{AllByRecursion as Each}
 use Rattle.std.specs.Ordering.{on}
-use Rattle.std.proofs.lemmas.List.{take-map, take-take}
+use Rattle.std.proofs.lemmas.List.{take-map}
 use Rattle.sqlite_keyed.specs.Lists.{insert_sorted, sort_by}
 use Rattle.json_tree.specs.Doc.{IsDocument}
 use Rattle.shred_cols.specs.Row.{Version, id_of}
 use Rattle.view_sort.specs.Sort.{SortKeys, HasIds, found_cmp, sorted}
+use Rattle.view_sort.specs.declared.fault.ViewFault.{ViewFault}
 use Rattle.cmd_tasks.specs.Trace.{Found}
 use Rattle.cmd_tasks.specs.Pages.{found_row}
 use Rattle.cmd_tasks.specs.Searches.{stored, in_order}
@@ -101,3 +103,12 @@ keeps_sorted paged (key ∷ keys) keep kept rows first some one vs ids is =
     let sort : SortKeys = key ∷ keys in
     let front : HasIds (take keep (sorted sort vs) ++ rows) = take_ids keep (sorted sort vs) rows (sort_ids (found_cmp sort) vs rows ids) in
     one (subst (λ (l : List Version). HasIds (l ++ rows)) (sym is) front) ∙ ap (λ l. take keep (sorted sort (l ++ rows))) is ∙ paged sort keep vs rows ids
+
+pub keeps_ordered : ArePaged → (sort : SortKeys) (keep : ℕ) (kept rows all : List Version) → (is_none : Bool) → (IsTrue is_none ↔ (sort ≡ [])) → is_none ≡ false → all ≡ kept ++ rows → (o : Result (Vec Version Global) ViewFault)
+    → (HasIds all → IfOk o (λ first. first.items ≡ take keep (sorted sort all))) → IfOk o (λ first. KeepsFirst sort keep kept rows first.items)
+keeps_ordered paged sort keep kept rows all is_none empty some is (Ok first) one =
+    keeps_sorted paged sort keep kept rows first.items (λ e. no (sym some ∙ empty.1 e)) (λ ids. subst (λ (l : List Version). first.items ≡ take keep (sorted sort l)) is (one (subst HasIds (sym is) ids)))
+  where
+    no : false ≡ true → ⊥
+    no e = cc
+keeps_ordered paged sort keep kept rows all is_none empty some is (Err fault) one = tt

@@ -4,7 +4,6 @@ use Rattle.std.specs.Prelude.{◌&&◌, ⊤, IfSome, nat_lt, option_and_then}
 use Rattle.std.specs.List.{filter, AllByRecursion as Each}
 use Rattle.std.specs.Ordering.{is_lt, is_le, is_eq, ordering_reverse}
 use Rattle.std.proofs.lemmas.Bool.{ltb-true}
-use Rattle.std.proofs.lemmas.Bool.Decides.{ltb_tells}
 use Rattle.std.proofs.lemmas.Cmp.{tied_itself, upto}
 use Rattle.std.proofs.lemmas.List.{length-map, map-append}
 use Rattle.json_tree.specs.Tree.{Tree}
@@ -255,7 +254,7 @@ module _ (base : Base) (coll : Name) (from : Option Tree) (search : Search) wher
   still_below last (Some u) i rs vs rows none below l e full within =
       let z = full_between base coll f rs last i l full in
       each_append (λ v. up_to (Some u) (id_of v.doc) ≡ true) vs rows (below_more last u z.0.0 vs none below z.1 (subst (λ (a : Option Tree). up_to a z.0.0 ≡ true) e z.2))
-          (subst (λ (a : Option Tree). Each (λ v. up_to a (id_of v.doc) ≡ true) rows) e within)
+      (subst (λ (a : Option Tree). Each (λ v. up_to a (id_of v.doc) ≡ true) rows) e within)
 
   seen_more : (s : Sight) (looks : List Sight) (x : Found) → IsSeen base coll f x looks → IsSeen base coll f x (s ∷ looks)
   seen_more s looks x h = record { look = h.look; among = (suc h.among.0, h.among.1); shows = h.shows; stood = h.stood }
@@ -268,11 +267,16 @@ module _ (base : Base) (coll : Name) (from : Option Tree) (search : Search) wher
       both (v ∷ vs) a b = (record { look = s; among = (0, refl); shows = a.0; stood = b.0 }, both vs a.1 b.1)
 
   module _ (k : ℕ) (H' : List Entry) (looks : List Sight) (p : Progress) (searching : IsSearching base coll from search p looks) (unended : GoesOn base coll f (bound search.sort search.keep) looks) where
+    -- how many are shown with a page
+    counted : (item : Item) (page : Vec Version Global) (last : Option Tree) → Sees base coll k H' f p.last (g.Shown item page last) → p.shown + length page.items ≡ length (shown base coll f (sight H' item ∷ looks))
+    counted item page last sees =
+        (λ j. searching.count j + sym (ap length sees.1 ∙ length-map page.items found_row) j) ∙ sym (length-append (shown base coll f looks) (shown_by base coll f (sight H' item)))
+
     -- the progress behind a page is that of the looks with it
     goes_on : (item : Item) (page : Vec Version Global) (last : Option Tree) (p' : Progress) → Sees base coll k H' f p.last (g.Shown item page last) → IsAdded search p page.items last p' → IsSearching base coll from search p' (sight H' item ∷ looks)
     goes_on item page last p' sees added = record {
       last = added.last_is ∙ sym sees.2;
-      count = added.shown ∙ (λ j. searching.count j + length-map found_row rows (~ j)) ∙ (λ j. length (shown base coll f looks) + length (sees.1 (~ j))) ∙ sym (length-append (shown base coll f looks) (shown_by base coll f s));
+      count = added.shown ∙ counted item page last sees;
       kept = ap (map found_row) (added.kept vs apart (rows_same p.kept.items (take search.keep (Rattle.cmd_tasks.specs.Finding.ordered search.sort vs)) (searching.kept ∙ ap (λ (xs : List Found). take search.keep (in_order search.sort xs)) searching.are ∙ first_rows search.sort search.keep vs)))
           ∙ sym (ap (λ (xs : List Found). take search.keep (in_order search.sort xs)) are ∙ first_rows search.sort search.keep (vs ++ rows));
       versions = vs ++ rows;
@@ -303,10 +307,6 @@ module _ (base : Base) (coll : Name) (from : Option Tree) (search : Search) wher
 
         are : shown base coll f (s ∷ looks) ≡ map found_row (vs ++ rows)
         are = (λ j. searching.are j ++ sees.1 j) ∙ sym (map-append found_row vs rows)
-
-    -- how many are shown with a page
-    counted : (item : Item) (page : Vec Version Global) (last : Option Tree) → Sees base coll k H' f p.last (g.Shown item page last) → p.shown + length page.items ≡ length (shown base coll f (sight H' item ∷ looks))
-    counted item page last sees = (λ j. searching.count j + length-map found_row page.items (~ j)) ∙ (λ j. length (shown base coll f looks) + length (sees.1 (~ j))) ∙ sym (length-append (shown base coll f looks) (shown_by base coll f (sight H' item)))
 
     -- it is the next look
     is_next : (item : Item) (page : Vec Version Global) (last : Option Tree) → Sees base coll k H' f p.last (g.Shown item page last) → IsLook base coll f (next_from from looks) (sight H' item)
