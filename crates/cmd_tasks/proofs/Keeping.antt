@@ -1,5 +1,5 @@
 -- The first so many of what was found, page by page.
-use Rattle.std.proofs.Common.{◌≡◌, ◌≢◌, ℕ, zero, suc, ◌≤◌, Bool, true, false, cond, List, [], ◌∷◌, ◌++◌, map, take, length, refl, sym, ap, ◌∙◌, subst, arith, Ordering, is_gt, append-nil, Vec, Global, Result, Ok, Err}
+use Rattle.std.proofs.Common.{◌≡◌, ◌≢◌, ℕ, zero, suc, Bool, true, false, cond, List, [], ◌∷◌, ◌++◌, map, take, refl, sym, ap, ◌∙◌, subst, Ordering, is_gt, append-nil, Vec, Global, Result, Ok, Err}
 use Rattle.std.specs.Prelude.{◌↔◌, IfOk, IsTrue}
 use Rattle.std.specs.List.{AllByRecursion as Each}
 use Rattle.std.specs.Ordering.{on}
@@ -9,7 +9,6 @@ use Rattle.json_tree.specs.Doc.{IsDocument}
 use Rattle.shred_cols.specs.Row.{Version, id_of}
 use Rattle.view_sort.specs.Sort.{SortKeys, HasIds, found_cmp, sorted}
 use Rattle.view_sort.specs.declared.fault.ViewFault.{ViewFault}
-use Rattle.cmd_tasks.specs.Trace.{Found}
 use Rattle.cmd_tasks.specs.Pages.{found_row}
 use Rattle.cmd_tasks.specs.Searches.{stored, in_order}
 use Rattle.cmd_tasks.specs.Finding.{ordered, KeepsFirst}

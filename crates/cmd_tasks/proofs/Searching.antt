@@ -1,5 +1,5 @@
 -- A page as the next look of a search.
-use Rattle.std.proofs.Common.{◌≡◌, ◌≢◌, ℕ, suc, ◌+◌, ◌<◌, ◌≤◌, List, [], ◌∷◌, ◌++◌, map, take, length, Bool, true, false, cond, Option, Some, None, refl, sym, ap, ◌∙◌, subst, arith, inl, inr, ⊎_elim, ◌⊎◌, Ordering, Less, Equal, Greater, is_gt, Vec, Global, length-append}
+use Rattle.std.proofs.Common.{◌≡◌, ◌≢◌, ℕ, suc, ◌+◌, ◌<◌, ◌≤◌, List, [], ◌∷◌, ◌++◌, map, take, length, Bool, true, false, cond, Option, Some, None, refl, sym, ap, ◌∙◌, subst, arith, inl, inr, ⊎_elim, Ordering, Less, Equal, Greater, is_gt, Vec, Global, length-append}
 use Rattle.std.specs.Prelude.{◌&&◌, ⊤, IfSome, nat_lt, option_and_then}
 use Rattle.std.specs.List.{filter, AllByRecursion as Each}
 use Rattle.std.specs.Ordering.{is_lt, is_le, is_eq, ordering_reverse}
@@ -7,16 +7,14 @@ use Rattle.std.proofs.lemmas.Bool.{ltb-true}
 use Rattle.std.proofs.lemmas.Cmp.{tied_itself, upto}
 use Rattle.std.proofs.lemmas.List.{length-map, map-append}
 use Rattle.json_tree.specs.Tree.{Tree}
-use Rattle.json_tree.specs.Doc.{IsDocument}
 use Rattle.json_tree.specs.Id.{id_cmp}
 use Rattle.shred_cols.specs.Row.{Version, id_of}
 use Rattle.shred_cols.specs.Rows.{Rows, ascends, version_of, is_after}
-use Rattle.col_keeper.specs.Tables.{Name, rows_in}
+use Rattle.col_keeper.specs.Tables.{Name}
 use Rattle.col_keeper.specs.Asked.{meets_document}
 use Rattle.filter_tree.specs.Filters.{FilterTree}
 use Rattle.filter_tree.specs.Matches.{matches}
 use Rattle.view_sort.specs.Sort.{SortKeys, HasIds}
-use Rattle.reply_env.specs.Messages as errors
 use Rattle.store_core.specs.State.{State as Base, version}
 use Rattle.store_core.specs.declared.entry.Entry.{Entry}
 use Rattle.cmd_tasks.specs.Trace.{Sight, sight, Found, found, found_in, probed_in, probe_of, up_to, now, rows_now, shown, shown_by, seen_by, end_of, next_from, Looks, IsLook, FullPage, GoesOn}
@@ -24,7 +22,6 @@ use Rattle.cmd_tasks.specs.Attempts.{IsOneOf}
 use Rattle.cmd_tasks.specs.Searches.{bound, is_too_many, stored, in_order}
 use Rattle.cmd_tasks.specs.Pages.{found_row}
 use Rattle.cmd_tasks.specs.Rank.{rank_of}
-use Rattle.cmd_tasks.specs.Wanted.{IsWanted}
 use Rattle.cmd_tasks.specs.Looking.{Made, Glances, Sees, StopsSo}
 use Rattle.cmd_tasks.specs.Finding.{are_too_many, AreDocuments, IsAdded, Adds}
 use Rattle.cmd_tasks.specs.Searching.{IsSearchable, IsSeen, IsSearching, Searches, Seeks}

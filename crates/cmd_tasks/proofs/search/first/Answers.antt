@@ -1,4 +1,3 @@
-use Rattle.std.proofs.Common.{sym, ◌∙◌}
 use Rattle.cmd_tasks.proofs.Keeping.{keeps_ordered}
 use Rattle.cmd_tasks.proofs.search.first.Goals as goal
 
