@@ -5,6 +5,8 @@ mod Listing
 mod Ranks
 mod Lasts
 mod Glances
+mod Keeping
+mod Searching
 mod Requests
 mod Standing
 mod Running

@@ -1,5 +1,5 @@
 -- The rank falls as ids rise.
-use Rattle.std.proofs.Common.{◌≡◌, ℕ, zero, suc, ◌-◌, ◌*◌, ◌+◌, ◌<◌, ◌≤◌, List, [], ◌∷◌, length, ap, arith, ⊎_elim, ◌⊎◌, inl, inr, true, false, cond, refl, sym, ◌∙◌, Less, Equal, Greater, Ordering, Bool, ltb, subst, Option, Some, None, ◌/◌, ◌%◌, ◌^◌, ◌++◌}
+use Rattle.std.proofs.Common.{◌≡◌, ℕ, zero, suc, ◌-◌, ◌*◌, ◌+◌, ◌<◌, ◌≤◌, List, [], ◌∷◌, length, ap, arith, ⊎_elim, ◌⊎◌, inl, inr, true, false, cond, refl, sym, ◌∙◌, Less, Equal, Greater, Bool, ltb, subst, Option, Some, None, ◌/◌, ◌++◌}
 use Rattle.std.specs.Prelude.{◌==◌, ◌&&◌, IsUtf8, IfSome}
 use lib.Utf8.{scalar, scalars, encode, encodes, next, scalar_cases}
 use Rattle.std.specs.Option.{option_map}
@@ -16,7 +16,7 @@ use Rattle.shred_cols.specs.Rows.{is_after}
 use Rattle.col_keeper.specs.Tables.{IsShort}
 use Rattle.col_keeper.specs.Pages.{IsPage}
 use Rattle.cmd_tasks.specs.Pages.{last_of, up_of}
-use Rattle.cmd_tasks.specs.Moves.{GoesUp}
+use Rattle.cmd_tasks.specs.Looking.{GoesUp}
 use Rattle.cmd_tasks.specs.Rank.{strings, rank, rank_of, AreBytes, IsKeyed}
 
 -- one string comes before the other

@@ -1,5 +1,5 @@
 -- One look of a listing, told or not: what a page of the store is to a request.
-use Rattle.std.specs.Prelude.{◌≡◌, ◌⊎◌, ℕ, ◌<◌, List, [], ◌++◌, length, map, Bool, Option, None, ⊤, IfSome}
+use Rattle.std.specs.Prelude.{◌≡◌, ◌⊎◌, ℕ, ◌<◌, List, [], ◌++◌, length, map, Bool, true, Option, Some, None, ⊤, IfSome}
 use Rattle.std.specs.List.{filter}
 use Rattle.outside_io.specs.Causes.{Rose}
 use Rattle.json_tree.specs.Tree.{Tree}
@@ -61,7 +61,7 @@ ShowsRows f at after page end (g.Ended item reply) = ⊥
 ShowsRows f at after page end g.NoMemory = ⊤
 
 abbrev pub Glances : ℕ → ℕ → ℕ → Option Tree → List Entry → List Entry → Glance → Type 0
-Glances k low high last H H' (g.Shown item page up) = Made k low high H H' item × GoesUp last up
+Glances k low high last H H' (g.Shown item page up) = Made k low high H H' item × GoesUp last up × (H' ≡ H)
 Glances k low high last H H' (g.Ended item reply) = Made k low high H H' item
 Glances k low high last H H' g.NoMemory = H' ≡ H
 
