@@ -69,8 +69,8 @@ page_text t = option_and_then text_in (option_in (codes "pageState") t)
 -- ---- page states
 
 -- the text spells this page state
-pub record Spells (text : List ℕ) (state : PageState) : Type 0 where
-  pub spells : state_text state.given state.last ≡ text
+pub record Spells (s : List ℕ) (state : PageState) : Type 0 where
+  pub spells : state_text state.given state.last ≡ s
   pub given : state.given < 2 ^ 63
   pub is_id : IsId state.last
   pub in_range : IsInRange state.last
@@ -78,10 +78,10 @@ pub record Spells (text : List ℕ) (state : PageState) : Type 0 where
 -- the page state of a text, or none where there is no text
 abbrev pub IsPage : Option (List ℕ) → Option PageState → Type 0
 IsPage None None = ⊤
-IsPage (Some text) (Some state) = Spells text state
-IsPage text page = ⊥
+IsPage (Some s) (Some state) = Spells s state
+IsPage s page = ⊥
 
 -- there is a text, and it spells no page state
 abbrev pub IsNoPage : Option (List ℕ) → Type 0
 IsNoPage None = ⊥
-IsNoPage (Some text) = (state : PageState) → Spells text state → ⊥
+IsNoPage (Some s) = (state : PageState) → Spells s state → ⊥

@@ -7,7 +7,7 @@ ghost use Rattle.cmd_grammar.specs.Commands.{command_tree, IsAskableFilter, IsSt
 ghost use Rattle.cmd_grammar.specs.Parts.{member_in, page_text};
 ghost use Rattle.cmd_grammar.specs.Refused.{inserted_refusal, parts_refusal};
 ghost use Rattle.cmd_grammar.specs.Answers.{Passes, PassesAll};
-ghost use Rattle.cmd_grammar.specs.Judged.{AreParts, without_document};
+ghost use Rattle.cmd_grammar.specs.Judged.{listing_refusal, IsListing, AreParts, without_document};
 
 use crate::command::Command;
 use crate::documents::check_document;
@@ -24,16 +24,22 @@ use std::alloc::Global;
 use update_ops::Updates;
 use view_sort::{PageState, Projection, Sort};
 
-/// What a command's value spells beside a document.
+/// Which of what matches is shown, and how.
 #[derive(Drop)]
-pub(crate) struct Parts {
-    pub(crate) filter: Filter,
-    pub(crate) updates: Updates,
+pub(crate) struct Listing {
     pub(crate) projection: Projection,
     pub(crate) sort: Sort,
     pub(crate) limit: u64,
     pub(crate) skip: u64,
     pub(crate) page: Option<PageState>,
+}
+
+/// What a command's value spells beside a document.
+#[derive(Drop)]
+pub(crate) struct Parts {
+    pub(crate) filter: Filter,
+    pub(crate) updates: Updates,
+    pub(crate) listing: Listing,
 }
 
 // The test of the member `document`.
@@ -43,6 +49,36 @@ fn check_inserted(alloc: Global, command: &Value) -> Result<(), CommandFault>
     match member(command, "document") {
         Some(document) => check_document(alloc, document),
         None => Ok(()),
+    }
+}
+
+// What a command's value tells of what is shown. Its document is tested behind the sort.
+fn read_listing(alloc: Global, command: &Value) -> Result<Listing, CommandFault>
+    ensures { PassesAll (listing_refusal (tree command.now)) (page_text (tree command.now)) (λ l. IsListing (tree command.now) l × IfSome (member_in (codes "document") (tree command.now)) IsStorable) result }
+{
+    let projection = match read_projection(alloc, command) {
+        Ok(projection) => projection,
+        Err(fault) => return Err(fault),
+    };
+    let sort = match read_sort(alloc, command) {
+        Ok(sort) => sort,
+        Err(fault) => return Err(fault),
+    };
+    match check_inserted(alloc, command) {
+        Ok(()) => {}
+        Err(fault) => return Err(fault),
+    }
+    let limit = number_in(command, "limit");
+    let skip = number_in(command, "skip");
+    match read_page(alloc, command) {
+        Ok(page) => Ok(Listing {
+            projection,
+            sort,
+            limit,
+            skip,
+            page,
+        }),
+        Err(fault) => Err(fault),
     }
 }
 
@@ -59,27 +95,11 @@ pub(crate) fn read_parts(alloc: Global, command: &Value) -> Result<Parts, Comman
         Ok(updates) => updates,
         Err(fault) => return Err(fault),
     };
-    let projection = match read_projection(alloc, command) {
-        Ok(projection) => projection,
-        Err(fault) => return Err(fault),
-    };
-    let sort = match read_sort(alloc, command) {
-        Ok(sort) => sort,
-        Err(fault) => return Err(fault),
-    };
-    match check_inserted(alloc, command) {
-        Ok(()) => {}
-        Err(fault) => return Err(fault),
-    }
-    match read_page(alloc, command) {
-        Ok(page) => Ok(Parts {
+    match read_listing(alloc, command) {
+        Ok(listing) => Ok(Parts {
             filter,
             updates,
-            projection,
-            sort,
-            limit: number_in(command, "limit"),
-            skip: number_in(command, "skip"),
-            page,
+            listing,
         }),
         Err(fault) => Err(fault),
     }
@@ -89,28 +109,31 @@ pub(crate) fn read_parts(alloc: Global, command: &Value) -> Result<Parts, Comman
 pub(crate) fn without_document(name: Name, parts: Parts) -> Option<Command>
     ensures { option_map command_tree result ≡ without_document name parts }
 {
+    let Parts {
+        filter,
+        updates,
+        listing,
+    } = parts;
     match name {
         Name::InsertOne => None,
         Name::FindOne => Some(Command::FindOne {
-            filter: parts.filter,
-            sort: parts.sort,
-            projection: parts.projection,
+            filter,
+            sort: listing.sort,
+            projection: listing.projection,
         }),
         Name::Find => Some(Command::Find {
-            filter: parts.filter,
-            sort: parts.sort,
-            projection: parts.projection,
-            limit: parts.limit,
-            skip: parts.skip,
-            page: parts.page,
+            filter,
+            sort: listing.sort,
+            projection: listing.projection,
+            limit: listing.limit,
+            skip: listing.skip,
+            page: listing.page,
         }),
-        Name::CountDocuments => Some(Command::CountDocuments {
-            filter: parts.filter,
-        }),
+        Name::CountDocuments => Some(Command::CountDocuments { filter }),
         Name::UpdateOne => Some(Command::UpdateOne {
-            filter: parts.filter,
-            updates: parts.updates,
-            sort: parts.sort,
+            filter,
+            updates,
+            sort: listing.sort,
         }),
     }
 }
