@@ -5,9 +5,7 @@ mod searches;
 
 use self::pages::{OPTIONS, PAGES, STATES};
 use self::rows::{REQUESTS, RETURNS, STREAMS, UPDATES, WORDS};
-use self::searches::{
-    FAULTS, FIRSTS, ORDER, REFUSED, SORTABLE, SORTED, SORTS, UNSORTABLE, VIEWS,
-};
+use self::searches::{FAULTS, FIRSTS, ORDER, REFUSED, SORTABLE, SORTED, SORTS, UNSORTABLE, VIEWS};
 use crate::top::dapi;
 use keeper_mem::MemKeeper;
 use outside_io::{ListClock, MemSink, MemSource};
