@@ -11,7 +11,8 @@ use Rattle.view_sort.specs.Projection.{projection_in}
 use Rattle.view_sort.specs.Sort.{sort_in}
 use Rattle.view_sort.specs.Page.{state_text}
 use Rattle.view_sort.specs.declared.page.PageState.{PageState}
-use Rattle.cmd_grammar.specs.Commands.{SortKeys, Shows}
+use Rattle.view_sort.specs.Sort.{SortKeys}
+use Rattle.cmd_grammar.specs.Commands.{Shows}
 
 -- ---- members and options
 
