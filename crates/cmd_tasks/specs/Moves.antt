@@ -20,6 +20,8 @@ use Rattle.reply_env.specs.declared.reply.ErrorItem.{ErrorItem}
 use Rattle.reply_env.specs.declared.reply.Reply.{Reply}
 use Rattle.reply_env.specs.declared.reply.Reply.TheVariants.{Updated, NoMemory}
 use Rattle.reply_env.specs.declared.update_errors.Loss.{Loss}
+use Rattle.view_sort.specs.Sort.{SortKeys}
+use Rattle.view_sort.specs.View.{view}
 use Rattle.store_core.specs.State.{State as Base, version}
 use Rattle.store_core.specs.Journal.{IsMadeOfRead}
 use Rattle.store_core.specs.declared.entry.Change.TheVariants.{Update}
@@ -28,13 +30,13 @@ use Rattle.cmd_grammar.specs.Commands.{CommandTree, Paging, insert_one, find_one
 use Rattle.cmd_tasks.specs.Rank.{rank_of}
 use Rattle.cmd_tasks.specs.Trace.{Sight, sight, Found, now, writes, rows_now, shown, shown_by, end_of, next_from, IsLook, FullPage}
 use Rattle.cmd_tasks.specs.Attempts.{IsOneOf}
-use Rattle.cmd_tasks.specs.Served.{IsPartOf, IsOpen, Serves, Stops, TellsFound, TellsUnwritten, MakesAnother, counted, sights, chosen, round, losses}
+use Rattle.cmd_tasks.specs.Served.{IsPartOf, IsOpen, Serves, Stops, TellsFound, TellsListed, TellsUnwritten, MakesAnother, counted, sights, chosen, round, losses}
 use Rattle.store_core.specs.Counts.{AllBy}
 use Rattle.cmd_tasks.specs.Session.{Records, AreCounted}
 use Rattle.cmd_tasks.specs.Placed.{IsPlaced}
 use Rattle.cmd_tasks.specs.Pages.{found_row, pair_of, up_of}
 use Rattle.cmd_tasks.specs.Wanted.{IsWanted}
-use Rattle.cmd_tasks.specs.Part.{from_of, given_of, keep_of}
+use Rattle.cmd_tasks.specs.Part.{from_of, given_of, keep_of, state_after}
 use Rattle.cmd_tasks.specs.Looking.{Made, IsLooked, Refuses}
 use Rattle.cmd_tasks.specs.Searching.{IsSearchable, IsFresh, IsSearching, IsSeen}
 use Rattle.cmd_tasks.specs.declared.work.Wanted.{Wanted}
@@ -67,10 +69,9 @@ asked (Choosing u progress) = Some (updating u)
 asked (Changing u read d) = Some (updating u)
 asked (Done reply) = None
 
--- the search finds as many as the page shows, and the state keeps how many were given before
-pub record IsPart (search : Search) (part : Part) : Type 0 where
+-- the numbers of the page are within their bounds, and the state keeps how many were given before
+pub record IsPart (part : Part) : Type 0 where
   pub askable : IsAskablePaging (paging part)
-  pub keep : search.keep ≡ keep_of (paging part)
   pub given : part.given ≡ given_of part.page.value
 
 -- an update searches for one document, and fewer attempts were lost than end it
@@ -83,7 +84,7 @@ pub record IsUpdating (u : Updating) : Type 0 where
 abbrev pub IsReady : State → Type 0
 IsReady (Inserting d) = IsStorable (tree d)
 IsReady (Selecting search progress projection) = IsSearchable search progress × (search.keep ≡ 1)
-IsReady (Listing search progress part) = IsSearchable search progress × IsPart search part
+IsReady (Listing search progress part) = IsSearchable search progress × IsPart part × (search.keep ≡ keep_of (paging part))
 IsReady (Counting w last n) = IsWanted w × (n < 1001)
 IsReady (Choosing u progress) = IsUpdating u × (progress.shown < 10001)
 IsReady (Changing u read d) = IsUpdating u × KeepsLimits d
@@ -123,6 +124,14 @@ Steps k low high w H H' m.NoMemory = H' ≡ H
 abbrev pub Finds : Option Tree → Reply → Type 0
 Finds d reply = TellsFound d reply ⊎ (reply ≡ NoMemory 0)
 
+-- the reply shows these documents and the page state behind them
+abbrev pub TellsPage : SortKeys → Part → List Version → Reply → Type 0
+TellsPage sort part rows reply = TellsListed (map (λ v. view part.projection v.doc) rows) (state_after sort (paging part) (map found_row rows)) reply
+
+-- the same, or memory was wanting
+abbrev pub Lists : SortKeys → Part → List Version → Reply → Type 0
+Lists sort part rows reply = TellsPage sort part rows reply ⊎ (reply ≡ NoMemory 0)
+
 -- the step ends with this item and such a reply
 abbrev pub EndsSo : Item → (Reply → Type 0) → Moved → Type 0
 EndsSo item P (m.Goes i w) = ⊥
@@ -145,6 +154,11 @@ abbrev pub Takes : Updating → Item → Version → Moved → Type 0
 Takes u item v (m.Goes i w) = (new : Tree) × MakesAnother u.updates u.moment v.doc new × ((id_of v.doc ≡ id_of new) × KeepsLimits new) × (i ≡ item) × (w ≡ Changing u v.tx new)
 Takes u item v (m.Ends i reply) = (i ≡ item) × (TellsUnwritten (apply u.updates v.doc u.moment false) v.doc reply ⊎ (reply ≡ NoMemory 0))
 Takes u item v m.NoMemory = ⊥
+
+-- what an update makes of the rows that were searched for
+abbrev pub Chooses : Updating → Item → List Version → Moved → Type 0
+Chooses u item [] o = o ≡ m.Ends item (Updated 0 0)
+Chooses u item (v ∷ rows) o = Takes u item v o
 
 -- the attempts that were lost, with this one
 abbrev pub with_loss : Updating → ℕ → Option ℕ → List Loss

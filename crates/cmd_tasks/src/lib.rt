@@ -1,6 +1,8 @@
 //! A task is one request as a machine that makes at most one call of the store in a step.
 #![tactic(auto)]
 
+mod begin;
+mod finds;
 mod glance;
 mod laws;
 mod run;

@@ -1,4 +1,4 @@
-// The steps of each command: one call of the store, and what it means.
+// The steps of an insertion and of a count: one call of the store, and what it means.
 ghost use Rattle.std.specs.Prelude.{◌≡◌, ℕ, ◌+◌, ◌<◌, ◌≤◌, List, Option, Some, None, true, length, [], ◌∷◌, IfOk, IsSome};
 ghost use Rattle.std.specs.Option.{ForSome};
 ghost use Rattle.json_tree.specs.Tree.{Tree};
@@ -9,9 +9,10 @@ ghost use Rattle.store_core.specs.Counts.{opened_in};
 ghost use Rattle.store_core.specs.Store.{IsLawful, SameBase};
 ghost use Rattle.store_core.specs.Growth.{Grows};
 ghost use Rattle.cmd_grammar.specs.Commands.{IsStorable};
-ghost use Rattle.cmd_tasks.specs.Served.{counted, TellsFound, TellsInserted};
+ghost use Rattle.cmd_tasks.specs.Served.{counted, TellsInserted};
 ghost use Rattle.cmd_tasks.specs.Wanted.{IsWanted};
-ghost use Rattle.cmd_tasks.specs.Moves.{Steps, Promises, Selects, count_to, IsLooked, Finds, Refuses, EndsSo, EndsMarked};
+ghost use Rattle.cmd_tasks.specs.Looking.{IsLooked, Refuses};
+ghost use Rattle.cmd_tasks.specs.Moves.{Steps, Promises, count_to, EndsSo, EndsMarked};
 ghost use Rattle.cmd_tasks.specs.declared.trace.Item.TheVariants.{Lost, Faulted};
 ghost use Rattle.reply_env.specs.declared.reply.ErrorItem.{ErrorItem as Error};
 
@@ -24,7 +25,6 @@ use json_tree::{Doc, DocId, TreeFault, Value};
 use reply_env::{
     ErrorItem, Reply, ReplyFault, already_exists, no_collection, store_fault, versions_spent,
 };
-use shred_cols::Row;
 use std::alloc::Global;
 use store_core::{Change, Store, WriteOutcome};
 
@@ -168,75 +168,6 @@ pub(crate) fn insert<K: Keeper>(
     match prepared(alloc, document) {
         Ok(insertion) => insert_doc(alloc, store, by, coll, insertion),
         Err(_) => Moved::NoMemory,
-    }
-}
-
-/// The reply that shows a row's document.
-fn found(alloc: Global, row: &Row) -> Reply
-    ensures { Finds (Some row.now.doc) result }
-{
-    match row.doc().value().try_copy(alloc) {
-        Ok(value) => Reply::Found { view: Some(value) },
-        Err(_) => Reply::NoMemory { accepted: 0 },
-    }
-}
-
-/// What a select makes of a page on which nothing matches.
-fn passed_over(wanted: Wanted, item: Item, last: Option<DocId>) -> Moved
-    ensures { Selects wanted item [] last result }
-{
-    match last {
-        Some(id) => Moved::Goes {
-            item,
-            state: State::Selecting {
-                wanted,
-                last: Some(id),
-            },
-        },
-        None => Moved::Ends {
-            item,
-            reply: Reply::Found { view: None },
-        },
-    }
-}
-
-/// What a select makes of a page.
-#[tactic(none)]
-fn selected(alloc: Global, wanted: Wanted, item: Item, rows: &[Row], last: Option<DocId>) -> Moved
-    ensures { Selects wanted item rows.now last result }
-{
-    match rows.first() {
-        Some(row) => {
-            let reply = found(alloc, row);
-            Moved::Ends { item, reply }
-        }
-        None => passed_over(wanted, item, last),
-    }
-}
-
-/// A step of a select: one page.
-pub(crate) fn select<K: Keeper>(
-    alloc: Global,
-    store: &mut Store<K>,
-    by: u64,
-    coll: &CollName,
-    wanted: Wanted,
-    last: Option<DocId>,
-) -> Moved
-    requires known { by < opened_in store.old.journal }
-    requires wanted { IsWanted wanted }
-    ensures steps { Steps by (K.failed store.old.keeper) (K.failed store.new.keeper) (State.Selecting wanted last) store.old.journal store.new.journal result }
-    ensures leads { Promises store.old.start coll.now by store.old.journal store.new.journal (State.Selecting wanted last) result }
-    ensures base { SameBase store.old store.new }
-    ensures grows { Grows (Some by) store.old.journal store.new.journal }
-    ensures faults { K.failed store.old.keeper ≤ K.failed store.new.keeper }
-    ensures work { K.called store.new.keeper ≤ K.called store.old.keeper + 1 }
-    ensures lawful { IsLawful store.new }
-{
-    match glance(alloc, store, by, coll, &wanted, &last) {
-        Glance::Shown { item, rows, last } => selected(alloc, wanted, item, &rows, last),
-        Glance::Ended { item, reply } => Moved::Ends { item, reply },
-        Glance::NoMemory => Moved::NoMemory,
     }
 }
 

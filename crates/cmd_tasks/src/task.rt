@@ -11,10 +11,12 @@ ghost use Rattle.cmd_tasks.specs.Served.{IsServed};
 ghost use Rattle.cmd_tasks.specs.Moves.{Steps, Promises, IsReady, Begins, Fits, left};
 ghost use Rattle.cmd_tasks.specs.Stands.{StandsOn, IsSame, Adds, IfDone};
 
-use crate::steps::{count, insert, select};
+use crate::begin::{choosing, listing, selecting};
+use crate::finds::{list, select};
+use crate::steps::{count, insert};
 use crate::trace::{Item, Trace};
 use crate::updates::{change, choose};
-use crate::work::{Moved, State, Updating, Wanted};
+use crate::work::{Moved, State, Wanted};
 use cmd_grammar::Command;
 use col_keeper::Keeper;
 use doc_paths::CollName;
@@ -62,13 +64,22 @@ fn advance<K: Keeper>(
 {
     match state {
         State::Inserting { document } => insert(alloc, store, by, coll, document),
-        State::Selecting { wanted, last } => select(alloc, store, by, coll, wanted, last),
+        State::Selecting {
+            search,
+            progress,
+            projection,
+        } => select(alloc, store, by, coll, search, progress, projection),
+        State::Listing {
+            search,
+            progress,
+            part,
+        } => list(alloc, store, by, coll, search, progress, part),
         State::Counting {
             wanted,
             last,
             shown,
         } => count(alloc, store, by, coll, wanted, last, shown),
-        State::Choosing { update, last } => choose(alloc, store, by, coll, update, last),
+        State::Choosing { update, progress } => choose(alloc, store, by, coll, update, progress),
         State::Changing { update, read, doc } => change(alloc, store, by, coll, update, read, doc),
         State::Done { reply: _ } => unreachable!(),
     }
@@ -81,24 +92,29 @@ fn first_state(alloc: Global, moment: i64, command: Command) -> State
 {
     match command {
         Command::InsertOne { document } => State::Inserting { document },
-        Command::FindOne { filter } => State::Selecting {
-            wanted: Wanted::new(alloc, filter),
-            last: None,
-        },
+        Command::FindOne {
+            filter,
+            sort,
+            projection,
+        } => selecting(alloc, filter, sort, projection),
+        Command::Find {
+            filter,
+            sort,
+            projection,
+            limit,
+            skip,
+            page,
+        } => listing(alloc, filter, sort, projection, limit, skip, page),
         Command::CountDocuments { filter } => State::Counting {
             wanted: Wanted::new(alloc, filter),
             last: None,
             shown: 0,
         },
-        Command::UpdateOne { filter, updates } => State::Choosing {
-            update: Updating {
-                wanted: Wanted::new(alloc, filter),
-                updates,
-                moment,
-                lost: Vec::new(alloc),
-            },
-            last: None,
-        },
+        Command::UpdateOne {
+            filter,
+            updates,
+            sort,
+        } => choosing(alloc, moment, filter, updates, sort),
     }
 }
 
@@ -187,6 +203,7 @@ impl Task {
             State::Done { reply } => Served { reply, trace },
             State::Inserting { .. }
             | State::Selecting { .. }
+            | State::Listing { .. }
             | State::Counting { .. }
             | State::Choosing { .. }
             | State::Changing { .. } => { unreachable!() }

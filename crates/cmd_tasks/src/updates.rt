@@ -1,4 +1,4 @@
-// The steps of an update: a listing to the first match, and then an attempt on it.
+// The steps of an update: a search for the first match, and then an attempt on it.
 ghost use Rattle.std.specs.Prelude.{◌≡◌, ◌≢◌, ◌+◌, ◌<◌, ◌≤◌, ◌++◌, ◌∷◌, [], Some, length, IfOk, IfSome};
 ghost use Rattle.shred_cols.specs.Row.{id_of};
 ghost use Rattle.col_keeper.specs.Tables.{KeepsLimits};
@@ -9,13 +9,14 @@ ghost use Rattle.cmd_grammar.specs.Refused.{update_error as error_of};
 ghost use Rattle.store_core.specs.Counts.{opened_in};
 ghost use Rattle.store_core.specs.Store.{IsLawful, SameBase, AtState};
 ghost use Rattle.store_core.specs.Growth.{Grows};
-ghost use Rattle.cmd_tasks.specs.Wanted.{IsWanted};
-ghost use Rattle.cmd_tasks.specs.Moves.{Steps, Promises, Refuses, Takes, Chooses, LosesTo, Fits};
+ghost use Rattle.cmd_tasks.specs.Looking.{Refuses};
+ghost use Rattle.cmd_tasks.specs.Moves.{Steps, Promises, IsUpdating, Takes, Chooses, LosesTo, Fits};
 
-use crate::glance::{glance, refuse};
+use crate::glance::refuse;
+use crate::search::search;
 use crate::steps::{failed, marked};
 use crate::trace::Item;
-use crate::work::{Glance, Moved, State, Updating};
+use crate::work::{Moved, Progress, Searched, State, Updating};
 use cmd_grammar::update_error;
 use col_keeper::{Keeper, limits_bound_ids};
 use doc_paths::CollName;
@@ -79,18 +80,12 @@ fn taken(alloc: Global, update: Updating, item: Item, row: &Row) -> Moved
     }
 }
 
-/// What it makes of a page on which nothing matches.
-fn passed_over(update: Updating, item: Item, last: Option<DocId>) -> Moved
-    ensures { Chooses update item [] last result }
+/// What it makes of the rows that were searched for, of which it takes the first.
+fn chosen(alloc: Global, update: Updating, item: Item, rows: &[Row]) -> Moved
+    ensures { Chooses update item rows.now result }
 {
-    match last {
-        Some(id) => Moved::Goes {
-            item,
-            state: State::Choosing {
-                update,
-                last: Some(id),
-            },
-        },
+    match rows.first() {
+        Some(row) => taken(alloc, update, item, row),
         None => Moved::Ends {
             item,
             reply: updated(0, 0),
@@ -98,41 +93,36 @@ fn passed_over(update: Updating, item: Item, last: Option<DocId>) -> Moved
     }
 }
 
-/// What it makes of a page.
-#[tactic(none)]
-fn chosen(alloc: Global, update: Updating, item: Item, rows: &[Row], last: Option<DocId>) -> Moved
-    ensures { Chooses update item rows.now last result }
-{
-    match rows.first() {
-        Some(row) => taken(alloc, update, item, row),
-        None => passed_over(update, item, last),
-    }
-}
-
-/// A step of an update's listing: one page.
+/// A step of an update's search.
 pub(crate) fn choose<K: Keeper>(
     alloc: Global,
     store: &mut Store<K>,
     by: u64,
     coll: &CollName,
     update: Updating,
-    last: Option<DocId>,
+    progress: Progress,
 ) -> Moved
     requires known { by < opened_in store.old.journal }
-    requires wanted { IsWanted update.wanted }
-    requires few { length update.lost.items < 4 }
-    ensures steps { Steps by (K.failed store.old.keeper) (K.failed store.new.keeper) (State.Choosing update last) store.old.journal store.new.journal result }
-    ensures leads { Promises store.old.start coll.now by store.old.journal store.new.journal (State.Choosing update last) result }
+    requires updating { IsUpdating update }
+    requires few { progress.shown < 10001 }
+    ensures steps { Steps by (K.failed store.old.keeper) (K.failed store.new.keeper) (State.Choosing update progress) store.old.journal store.new.journal result }
+    ensures leads { Promises store.old.start coll.now by store.old.journal store.new.journal (State.Choosing update progress) result }
     ensures base { SameBase store.old store.new }
     ensures grows { Grows (Some by) store.old.journal store.new.journal }
     ensures faults { K.failed store.old.keeper ≤ K.failed store.new.keeper }
     ensures work { K.called store.new.keeper ≤ K.called store.old.keeper + 1 }
     ensures lawful { IsLawful store.new }
 {
-    match glance(alloc, store, by, coll, &update.wanted, &last) {
-        Glance::Shown { item, rows, last } => chosen(alloc, update, item, &rows, last),
-        Glance::Ended { item, reply } => Moved::Ends { item, reply },
-        Glance::NoMemory => Moved::NoMemory,
+    match search(alloc, store, by, coll, &update.search, progress) {
+        Searched::More { item, progress } => Moved::Goes {
+            item,
+            state: State::Choosing { update, progress },
+        },
+        Searched::Whole { item, progress } => {
+            chosen(alloc, update, item, progress.kept.as_slice())
+        }
+        Searched::Stopped { item, reply } => Moved::Ends { item, reply },
+        Searched::NoMemory => Moved::NoMemory,
     }
 }
 
@@ -160,7 +150,7 @@ fn lost_to(alloc: Global, at: u64, update: Updating, read: u64, found: Option<u6
 {
     let item = Item::Lost { at, read, found };
     let Updating {
-        wanted,
+        search,
         updates,
         moment,
         lost,
@@ -178,14 +168,15 @@ fn lost_to(alloc: Global, at: u64, update: Updating, read: u64, found: Option<u6
         };
     }
     let update = Updating {
-        wanted,
+        search,
         updates,
         moment,
         lost,
     };
+    let progress = Progress::begin(alloc, None);
     Moved::Goes {
         item,
-        state: State::Choosing { update, last: None },
+        state: State::Choosing { update, progress },
     }
 }
 
@@ -218,8 +209,7 @@ pub(crate) fn change<K: Keeper>(
     doc: Doc,
 ) -> Moved
     requires known { by < opened_in store.old.journal }
-    requires wanted { IsWanted update.wanted }
-    requires few { length update.lost.items < 4 }
+    requires updating { IsUpdating update }
     requires limits { KeepsLimits doc }
     requires fits { AtState store.old (λ s. Fits s coll.now (State.Changing update read doc)) }
     ensures steps { Steps by (K.failed store.old.keeper) (K.failed store.new.keeper) (State.Changing update read doc) store.old.journal store.new.journal result }

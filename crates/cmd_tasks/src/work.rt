@@ -5,6 +5,7 @@ ghost use Rattle.filter_tree.specs.Matches.{matches};
 ghost use Rattle.filter_plan.specs.View.{IsPlanOf};
 ghost use Rattle.cmd_grammar.specs.Commands.{IsAskableFilter};
 ghost use Rattle.cmd_tasks.specs.Wanted.{IsWanted};
+ghost use Rattle.cmd_tasks.specs.Searching.{IsFresh};
 
 use crate::trace::Item;
 use filter_plan::{Plan, Verdict, plan};
@@ -69,6 +70,19 @@ pub(crate) struct Progress {
     pub(crate) last: Option<DocId>,
     pub(crate) kept: Vec<Row>,
     pub(crate) shown: usize,
+}
+
+impl Progress {
+    /// The search that has made no look yet, and begins behind this id.
+    pub(crate) fn begin(alloc: Global, last: Option<DocId>) -> Progress
+        ensures { IsFresh last result }
+    {
+        Progress {
+            last,
+            kept: Vec::new(alloc),
+            shown: 0,
+        }
+    }
 }
 
 /// What a page shows of what is found. `page` is where it began, and takes no memory.

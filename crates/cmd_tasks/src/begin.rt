@@ -1,0 +1,126 @@
+// The states in which the commands begin that search.
+ghost use Rattle.std.specs.Prelude.{◌≡◌, ◌<◌, ◌≤◌, ◌-◌, ◌^◌, None, Some, IfSome, min, option_and_then};
+ghost use Rattle.std.specs.Option.{option_map};
+ghost use Rattle.filter_tree.specs.View.{filter_tree};
+ghost use Rattle.cmd_grammar.specs.Commands.{IsAskableFilter, IsAskablePaging, Paging, find_one, find, update_one};
+ghost use Rattle.cmd_tasks.specs.Part.{given_of, from_of, most_of};
+ghost use Rattle.cmd_tasks.specs.Moves.{Begins};
+
+use crate::work::{Part, Progress, Search, State, Updating, Wanted};
+use filter_tree::Filter;
+use json_tree::DocId;
+use std::alloc::Global;
+use std::snapshot::Snapshot;
+use update_ops::Updates;
+use view_sort::{PageState, Projection, Sort};
+
+/// So many documents are shown on a page at most.
+const PAGE: u64 = 20;
+
+/// The state in which findOne begins.
+pub(crate) fn selecting(alloc: Global, filter: Filter, sort: Sort, projection: Projection) -> State
+    requires { IsAskableFilter (filter_tree filter) }
+    ensures { (moment : ℤ) → Begins moment (find_one (filter_tree filter) sort projection) result }
+{
+    State::Selecting {
+        search: Search {
+            wanted: Wanted::new(alloc, filter),
+            sort,
+            keep: 1,
+        },
+        progress: Progress::begin(alloc, None),
+        projection,
+    }
+}
+
+/// The state in which updateOne begins.
+pub(crate) fn choosing(
+    alloc: Global,
+    moment: i64,
+    filter: Filter,
+    updates: Updates,
+    sort: Sort,
+) -> State
+    requires { IsAskableFilter (filter_tree filter) }
+    ensures { Begins moment (update_one (filter_tree filter) updates sort) result }
+{
+    State::Choosing {
+        update: Updating {
+            search: Search {
+                wanted: Wanted::new(alloc, filter),
+                sort,
+                keep: 1,
+            },
+            updates,
+            moment,
+            lost: Vec::new(alloc),
+        },
+        progress: Progress::begin(alloc, None),
+    }
+}
+
+/// How many documents were given before the page.
+fn given_before(page: &Option<PageState>) -> u64
+    ensures { result ≡ given_of page.now }
+{
+    match page {
+        Some(page) => page.given,
+        None => 0,
+    }
+}
+
+/// The last of them.
+fn last_before(page: Option<PageState>) -> Option<DocId>
+    ensures { result ≡ option_map (λ p. p.last) page }
+{
+    match page {
+        Some(page) => Some(page.last),
+        None => None,
+    }
+}
+
+/// How many documents the page may show.
+fn most_shown(limit: u64, given: u64) -> u64
+    ensures most { (p : Paging) → p.limit ≡ limit → given_of p.page ≡ given → result ≡ most_of p }
+    ensures few { result ≤ 20 }
+{
+    if limit == 0 {
+        PAGE
+    } else {
+        PAGE.min(limit.saturating_sub(given))
+    }
+}
+
+/// The state in which find begins.
+pub(crate) fn listing(
+    alloc: Global,
+    filter: Filter,
+    sort: Sort,
+    projection: Projection,
+    limit: u64,
+    skip: u64,
+    page: Option<PageState>,
+) -> State
+    requires filter { IsAskableFilter (filter_tree filter) }
+    requires paging { IsAskablePaging (record { limit = limit; skip = skip; page = page }) }
+    ensures { (moment : ℤ) → Begins moment (find (filter_tree filter) sort projection (record { limit = limit; skip = skip; page = page })) result }
+{
+    let snapshot = Snapshot::of(&page);
+    let given = given_before(&page);
+    let most = most_shown(limit, given);
+    State::Listing {
+        search: Search {
+            wanted: Wanted::new(alloc, filter),
+            sort,
+            keep: (skip + most) as usize,
+        },
+        progress: Progress::begin(alloc, last_before(page)),
+        part: Part {
+            projection,
+            limit,
+            skip,
+            given,
+            page: snapshot,
+        },
+    }
+}
