@@ -1,6 +1,5 @@
 -- Commands: a tree that holds no pointer.
-use Rattle.std.specs.Prelude.{◌≡◌, ◌<◌, ◌≤◌, ◌^◌, ℕ, true, Bool, List, Option, Some, None, IfSome}
-use Rattle.std.specs.Option.{option_map}
+use Rattle.std.specs.Prelude.{◌≡◌, ◌<◌, ◌≤◌, ◌^◌, ℕ, true, Bool, List, Option, None, IfSome}
 use Rattle.json_tree.specs.Tree.{Tree}
 use Rattle.json_tree.specs.Doc.{IsDocument}
 use Rattle.json_tree.specs.View.{tree}

@@ -86,7 +86,9 @@ fn page_of(alloc: Global, page: &Option<PageState>) -> Result<String, Fail> {
 fn asked(alloc: Global, command: Command) -> Result<String, Fail> {
     match command {
         Command::FindOne {
-            sort, projection, ..
+            sort,
+            projection,
+            ..
         } => {
             let order = order_of(alloc, &sort)?;
             let view = view_of(alloc, &projection)?;
@@ -103,9 +105,12 @@ fn asked(alloc: Global, command: Command) -> Result<String, Fail> {
             let order = order_of(alloc, &sort)?;
             let view = view_of(alloc, &projection)?;
             let page = page_of(alloc, &page)?;
-            Ok(
-                format!(in alloc; "{}, {}, {limit}, {skip}, {}", order.as_str(), view.as_str(), page.as_str())?,
-            )
+            Ok(format!(in alloc;
+                "{}, {}, {limit}, {skip}, {}",
+                order.as_str(),
+                view.as_str(),
+                page.as_str()
+            )?)
         }
         Command::UpdateOne { sort, .. } => order_of(alloc, &sort),
         _ => Ok(String::new(alloc)),

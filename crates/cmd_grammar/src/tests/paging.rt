@@ -1,6 +1,5 @@
 // The same of sorts, projections and pages.
-pub(super) const ROWS: &str =
-    r##"ks/c {"find":{}} => find
+pub(super) const ROWS: &str = r##"ks/c {"find":{}} => find
 ks/c {"find":[]} => {"errors":[{"message":"Command field invalid: find","errorCode":"COMMAND_FIELD_INVALID"}]}
 ks/c {"find":null} => {"errors":[{"message":"Command field invalid: find","errorCode":"COMMAND_FIELD_INVALID"}]}
 ks/c {"find":{"$date":0}} => {"errors":[{"message":"Command field invalid: find","errorCode":"COMMAND_FIELD_INVALID"}]}
