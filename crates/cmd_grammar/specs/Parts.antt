@@ -8,10 +8,10 @@ use Rattle.filter_tree.specs.Reads.{filter_in}
 use Rattle.update_ops.specs.Clauses.{Clause}
 use Rattle.update_ops.specs.Faults.{updates_in}
 use Rattle.view_sort.specs.Projection.{projection_in}
-use Rattle.view_sort.specs.Sort.{sort_in}
+use Rattle.view_sort.specs.Sort.{SortKeys, sort_in}
 use Rattle.view_sort.specs.Page.{state_text}
 use Rattle.view_sort.specs.declared.page.PageState.{PageState}
-use Rattle.cmd_grammar.specs.Commands.{SortKeys, Shows}
+use Rattle.cmd_grammar.specs.Commands.{Shows}
 
 -- ---- members and options
 
