@@ -1,5 +1,5 @@
 -- What one call of the store means for a request that is under way.
-use Rattle.std.proofs.Common.{◌≡◌, ℕ, ◌+◌, ◌<◌, ◌≤◌, List, [], ◌∷◌, ◌++◌, map, take, length, Bool, true, false, cond, Option, Some, None, refl, sym, ap, ◌∙◌, subst, arith, append-nil, eq-eqb}
+use Rattle.std.proofs.Common.{◌≡◌, ℕ, ◌+◌, ◌<◌, ◌≤◌, List, [], ◌∷◌, ◌++◌, map, take, length, Bool, true, false, cond, Option, Some, None, refl, sym, ap, ◌∙◌, subst, arith, append-nil, eq-eqb, inr}
 use Rattle.std.specs.Prelude.{slice_get, IfSome}
 use Rattle.std.specs.Option.{option_map}
 use Rattle.std.specs.List.{filter, AllByRecursion as Each}
@@ -15,7 +15,7 @@ use Rattle.filter_tree.specs.Filters.{FilterTree}
 use Rattle.filter_tree.specs.Matches.{matches}
 use Rattle.reply_env.specs.Messages as errors
 use Rattle.reply_env.specs.declared.reply.Reply.{Reply}
-use Rattle.store_core.specs.State.{State}
+use Rattle.store_core.specs.State.{State, IsGone}
 use Rattle.store_core.specs.Journal.{replay}
 use Rattle.store_core.specs.Outcomes.{ShowsPage}
 use Rattle.store_core.specs.declared.entry.Entry.{Entry}
@@ -25,7 +25,7 @@ use Rattle.cmd_tasks.specs.Rank.{rank_of, IsKeyed}
 use Rattle.cmd_tasks.specs.Trace.{sight, rows_now, found_in, probed_in, probe_of}
 use Rattle.cmd_tasks.specs.Served.{Stops}
 use Rattle.cmd_tasks.specs.Pages.{found_row, last_of, up_of}
-use Rattle.cmd_tasks.specs.Moves.{Made, GoesUp, IsLooked, ShowsRows, ShowsNothing, StopsWith, Glances, Sees, Refuses}
+use Rattle.cmd_tasks.specs.Looking.{Made, GoesUp, IsLooked, ShowsRows, ShowsNothing, StopsWith, Glances, Sees, StopsSo, Refuses}
 use Rattle.cmd_tasks.specs.declared.trace.Item.{Item}
 use Rattle.cmd_tasks.specs.declared.trace.Item.TheVariants.{Looked, Wrote, Lost, Faulted}
 use Rattle.cmd_tasks.specs.declared.work.Glance.{Glance}
@@ -94,7 +94,7 @@ saw_entry H H' e at longer here = ap (λ (n : ℕ). slice_get H' n) here ∙ (ap
 
 -- a page, told or not
 pub shown_glances : (k low high : ℕ) (last : Option Tree) (H H' : List Entry) (f : FilterTree) (at : ℕ) (page : List Version) (end : Bool) (o : Glance) → H' ≡ H → at ≡ length H → GoesUp last (up_of end page) → ShowsRows f at last page end o → Glances k low high last H H' o
-shown_glances k low high last H H' f at page end (g.Shown item rs up) same here p is = (looked_here k low high H H' item at last _ _ same here is.2, subst (GoesUp last) (sym is.1) p)
+shown_glances k low high last H H' f at page end (g.Shown item rs up) same here p is = (looked_here k low high H H' item at last _ _ same here is.2, subst (GoesUp last) (sym is.1) p, same)
 shown_glances k low high last H H' f at page end (g.Ended item r) same here p is = absurd is
 shown_glances k low high last H H' f at page end g.NoMemory same here p is = same
 
@@ -144,3 +144,30 @@ module _ (base : State) (coll : Name) (k : ℕ) where
   pub failed_stops : (marks : Option Tree → Option Tree → Type 0) (to_write : Type 0) (H H' : List Entry) (at before count : ℕ) → H' ≡ H ++ Failed k before count ∷ [] → at ≡ length H
       → Stops base coll k marks to_write (Faulted at before count) (sight H' (Faulted at before count)) (errors.store_fault before count)
   failed_stops marks to_write H H' at before count longer here = (saw_entry H H' (Failed k before count) at longer here, refl)
+
+  -- a listing at a point where the collection doesn't live
+  pub gone_stops : (last : Option Tree) (H H' : List Entry) (at : ℕ) (item : Item) (reply : Reply) → H' ≡ H → at ≡ length H → IsLooked item at last None [] → IsGone coll (replay base H)
+      → Refuses (errors.no_collection coll) reply → StopsSo base coll k H' last item reply
+  gone_stops last H H' at (Looked a from to pairs) reply same here is gone refuses =
+      let past : take a H' ≡ H = saw H H' a same (is.0 ∙ here) in
+      (errors.no_collection coll, ((is.1, is.2), is.3, inr (λ w. absurd w, subst (IsGone coll) (ap (replay base) (sym past)) gone, refl)), refuses)
+  gone_stops last H H' at (Wrote a) reply same here is gone refuses = absurd is
+  gone_stops last H H' at (Lost a read f) reply same here is gone refuses = absurd is
+  gone_stops last H H' at (Faulted a b c) reply same here is gone refuses = absurd is
+
+  pub fault_stops : (last : Option Tree) (H H' : List Entry) (at before count : ℕ) (reply : Reply) → H' ≡ H ++ Failed k before count ∷ [] → at ≡ length H
+      → Refuses (errors.store_fault before count) reply → StopsSo base coll k H' last (Faulted at before count) reply
+  fault_stops last H H' at before count reply longer here refuses = (errors.store_fault before count, (saw_entry H H' (Failed k before count) at longer here, refl), refuses)
+
+  pub gone_sees : (last : Option Tree) (H H' : List Entry) (f : FilterTree) (at : ℕ) (o : Glance) → H' ≡ H → at ≡ length H → IsGone coll (replay base H)
+      → ShowsNothing at last (Refuses (errors.no_collection coll)) o → Sees base coll k H' f last o
+  gone_sees last H H' f at (g.Shown item rs up) same here gone is = absurd is
+  gone_sees last H H' f at (g.Ended item r) same here gone is = gone_stops last H H' at item r same here is.0 gone is.1
+  gone_sees last H H' f at g.NoMemory same here gone is = absurd is
+
+  pub fault_sees : (last : Option Tree) (H H' : List Entry) (f : FilterTree) (at before count : ℕ) (o : Glance) → H' ≡ H ++ Failed k before count ∷ [] → at ≡ length H
+      → StopsWith (Faulted at before count) (Refuses (errors.store_fault before count)) o → Sees base coll k H' f last o
+  fault_sees last H H' f at before count (g.Shown item rs up) longer here is = absurd is
+  fault_sees last H H' f at before count (g.Ended item r) longer here is =
+      subst (λ (i : Item). StopsSo base coll k H' last i r) (sym is.0) (fault_stops last H H' at before count r longer here is.1)
+  fault_sees last H H' f at before count g.NoMemory longer here is = absurd is

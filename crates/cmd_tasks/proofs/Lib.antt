@@ -4,6 +4,7 @@ mod Schedules
 mod Listing
 mod Ranks
 mod Lasts
+mod Fresh
 mod Glances
 mod Requests
 mod Standing

@@ -16,7 +16,7 @@ use Rattle.shred_cols.specs.Rows.{is_after}
 use Rattle.col_keeper.specs.Tables.{IsShort}
 use Rattle.col_keeper.specs.Pages.{IsPage}
 use Rattle.cmd_tasks.specs.Pages.{last_of, up_of}
-use Rattle.cmd_tasks.specs.Moves.{GoesUp}
+use Rattle.cmd_tasks.specs.Looking.{GoesUp}
 use Rattle.cmd_tasks.specs.Rank.{strings, rank, rank_of, AreBytes, IsKeyed}
 
 -- one string comes before the other

@@ -61,7 +61,7 @@ ShowsRows f at after page end (g.Ended item reply) = ⊥
 ShowsRows f at after page end g.NoMemory = ⊤
 
 abbrev pub Glances : ℕ → ℕ → ℕ → Option Tree → List Entry → List Entry → Glance → Type 0
-Glances k low high last H H' (g.Shown item page up) = Made k low high H H' item × GoesUp last up
+Glances k low high last H H' (g.Shown item page up) = Made k low high H H' item × GoesUp last up × (H' ≡ H)
 Glances k low high last H H' (g.Ended item reply) = Made k low high H H' item
 Glances k low high last H H' g.NoMemory = H' ≡ H
 

@@ -7,11 +7,10 @@ use Rattle.filter_tree.specs.View.{filter_tree}
 use Rattle.col_keeper.specs.Pages.{IsPage}
 use Rattle.reply_env.specs.Messages as errors
 use Rattle.store_core.specs.Outcomes.{ShowsPage}
-use Rattle.cmd_tasks.specs.Moves.{ShowsRows, ShowsNothing, GoesUp, Refuses}
+use Rattle.cmd_tasks.specs.Looking.{ShowsRows, ShowsNothing, GoesUp, Refuses}
 use Rattle.cmd_tasks.specs.Pages.{up_of}
 use Rattle.cmd_tasks.specs.Trace.{probe_of}
-use Rattle.cmd_tasks.proofs.Glances.{shown_glances, shown_sees, gone_glances, fault_glances}
-use Rattle.cmd_tasks.proofs.Requests.{gone_sees, fault_sees}
+use Rattle.cmd_tasks.proofs.Glances.{shown_glances, shown_sees, gone_glances, gone_sees, fault_glances, fault_sees}
 use Rattle.cmd_tasks.proofs.glance.glance.Goals as goal
 
 pub rises-requires : goal.rises-requires

@@ -1,6 +1,6 @@
 use Rattle.std.proofs.Common.{ℕ, List, refl, subst}
 use Rattle.reply_env.specs.Messages as errors
-use Rattle.cmd_tasks.specs.Moves.{Refuses}
+use Rattle.cmd_tasks.specs.Looking.{Refuses}
 use Rattle.cmd_tasks.proofs.glance.gone.Goals as goal
 
 pub returns : goal.returns
