@@ -1,387 +1,19 @@
 """A plain model of the service, written from docs/API.md alone: lines in, replies, status and note out.
 
-It is slow and obvious on purpose, shares nothing with the program, and is what `compare` holds the program to.
-Values: None, True, False, Number, str, Date, list, Members.
+It is slow and obvious on purpose, shares nothing with the program, and is what `compare-random` holds the program to.
+Values are in values.py, projections, sorts and page states in views.py.
 """
 import re
 
-PLACES = 18
-RANGE = 10 ** 38
-DEEPEST = 32
-NAME = re.compile(r"[A-Za-z0-9_-]*\Z")
-COLLECTION = re.compile(r"[A-Za-z][A-Za-z0-9_]{0,47}\Z")
-NUMERAL = re.compile(r"-?(0|[1-9][0-9]*)(?:\.([0-9]+))?(?:[eE]([+-]?[0-9]+))?\Z")
-
-
-class Number:
-    """An exact number, as a count of 10^-18."""
-
-    def __init__(self, units):
-        self.units = units
-
-    def __eq__(self, other):
-        return isinstance(other, Number) and self.units == other.units
-
-
-class Date:
-    """A moment in milliseconds."""
-
-    def __init__(self, moment):
-        self.moment = moment
-
-    def __eq__(self, other):
-        return isinstance(other, Date) and self.moment == other.moment
-
-
-class Members:
-    """An object: pairs of distinct names and values, in order."""
-
-    def __init__(self, pairs):
-        self.pairs = pairs
-
-    def __eq__(self, other):
-        return isinstance(other, Members) and same(self, other)
-
-    def get(self, name):
-        for key, value in self.pairs:
-            if key == name:
-                return value
-        return ABSENT
-
-    def names(self):
-        return [key for key, _ in self.pairs]
-
-
-class Absent:
-    pass
-
-
-ABSENT = Absent()
-
-
-class Fault(Exception):
-    """A refusal, with its code and message."""
-
-    def __init__(self, code, message):
-        super().__init__(message)
-        self.code = code
-        self.message = message
-
-
-def kind(value):
-    if value is None:
-        return "null"
-    if isinstance(value, bool):
-        return "bool"
-    return {Number: "number", str: "text", Date: "date", list: "list", Members: "object"}[type(value)]
-
-
-def same(a, b):
-    if kind(a) != kind(b):
-        return False
-    if isinstance(a, list):
-        return len(a) == len(b) and all(same(x, y) for x, y in zip(a, b))
-    if isinstance(a, Members):
-        return len(a.pairs) == len(b.pairs) and all(
-            k == l and same(x, y) for (k, x), (l, y) in zip(a.pairs, b.pairs))
-    return a == b
-
-
-# ---- JSON ----
-
-def units_of(numeral):
-    """The count of 10^-18 that a numeral spells, or None where it is no number."""
-    found = NUMERAL.match(numeral)
-    whole, fraction, exponent = found.group(1), found.group(2) or "", int(found.group(3) or "0")
-    digits = (whole + fraction).lstrip("0")
-    if not digits:
-        return 0
-    shift = PLACES - len(fraction) + exponent
-    if shift < 0:
-        if len(digits) <= -shift or digits[shift:].strip("0"):
-            return None
-        digits, shift = digits[:shift], 0
-    if len(digits) + shift > 38:
-        return None
-    units = int(digits) * 10 ** shift
-    return -units if numeral.startswith("-") else units
-
-
-def string_at(text, start):
-    """The string whose quote stands at start: its content and the place behind it; None where malformed."""
-    out, i = [], start + 1
-    simple = {'"': '"', "\\": "\\", "/": "/", "b": "\b", "f": "\f", "n": "\n", "r": "\r", "t": "\t"}
-    while i < len(text):
-        c = text[i]
-        if c == '"':
-            return "".join(out), i + 1
-        if ord(c) < 0x20:
-            return None
-        if c != "\\":
-            out.append(c)
-            i += 1
-            continue
-        escape = text[i + 1:i + 2]
-        if escape in simple and escape:
-            out.append(simple[escape])
-            i += 2
-            continue
-        unit = hexadecimal(text, i)
-        if unit is None or 0xDC00 <= unit < 0xE000:
-            return None
-        i += 6
-        if 0xD800 <= unit < 0xDC00:
-            low = hexadecimal(text, i)
-            if low is None or not 0xDC00 <= low < 0xE000:
-                return None
-            unit = 0x10000 + ((unit - 0xD800) << 10) + (low - 0xDC00)
-            i += 6
-        out.append(chr(unit))
-    return None
-
-
-def hexadecimal(text, i):
-    found = re.match(r"\\u([0-9a-fA-F]{4})", text[i:i + 6])
-    return int(found.group(1), 16) if found else None
-
-
-def token_at(text, i):
-    """(kind, payload, start, end) of the token from i on; kind 'bad' where it is malformed."""
-    while i < len(text) and text[i] in " \t\n\r":
-        i += 1
-    if i == len(text):
-        return "end", None, i, i
-    c = text[i]
-    if c in "{}[]:,":
-        return c, None, i, i + 1
-    if c == '"':
-        found = string_at(text, i)
-        return ("bad", None, i, i) if found is None else ("string", found[0], i, found[1])
-    if c == "-" or "0" <= c <= "9":
-        end = i
-        while end < len(text) and text[end] in "0123456789+-.eE":
-            end += 1
-        numeral = text[i:end]
-        return ("number", numeral, i, end) if NUMERAL.match(numeral) else ("bad", None, i, i)
-    if "a" <= c <= "z":
-        end = i
-        while end < len(text) and "a" <= text[end] <= "z":
-            end += 1
-        word = {"true": True, "false": False, "null": None}
-        return ("word", word[text[i:end]], i, end) if text[i:end] in word else ("bad", None, i, i)
-    return "bad", None, i, i
-
-
-class Reader:
-    def __init__(self, text):
-        self.text = text
-        self.take(0)
-
-    def take(self, place):
-        self.kind, self.payload, self.start, self.end = token_at(self.text, place)
-
-    def next(self):
-        self.take(self.end)
-
-    def refuse(self, what="not JSON"):
-        at = len(self.text[:self.start].encode())
-        if what == "number":
-            raise Fault("NUMBER_OUT_OF_RANGE", f"Number is out of range at byte {at}")
-        raise Fault("INVALID_JSON", f"Body is {what} at byte {at}")
-
-    def value(self, levels):
-        if self.kind in "{[":
-            if levels == DEEPEST:
-                self.refuse("nested too deep")
-            return self.object(levels) if self.kind == "{" else self.list(levels)
-        if self.kind == "number":
-            units = units_of(self.payload)
-            if units is None:
-                self.refuse("number")
-            value = Number(units)
-        elif self.kind in ("string", "word"):
-            value = self.payload
-        else:
-            self.refuse()
-        self.next()
-        return value
-
-    def list(self, levels):
-        self.next()
-        items = []
-        if self.kind == "]":
-            self.next()
-            return items
-        while True:
-            items.append(self.value(levels + 1))
-            if self.kind == "]":
-                self.next()
-                return items
-            if self.kind != ",":
-                self.refuse()
-            self.next()
-
-    def object(self, levels):
-        self.next()
-        members = {}
-        if self.kind == "}":
-            self.next()
-            return Members([])
-        while True:
-            if self.kind != "string":
-                self.refuse()
-            name = self.payload
-            self.next()
-            if self.kind != ":":
-                self.refuse()
-            self.next()
-            members[name] = self.value(levels + 1)
-            if self.kind == "}":
-                self.next()
-                return dated(Members(list(members.items())))
-            if self.kind != ",":
-                self.refuse()
-            self.next()
-
-
-def dated(members):
-    if members.names() == ["$date"] and isinstance(members.pairs[0][1], Number):
-        moment, rest = divmod(members.pairs[0][1].units, 10 ** PLACES)
-        if rest == 0 and -2 ** 63 <= moment < 2 ** 63:
-            return Date(moment)
-    return members
-
-
-def read(body):
-    try:
-        text = body.decode()
-    except UnicodeDecodeError as fault:
-        raise Fault("INVALID_JSON", f"Body is not UTF-8 at byte {fault.start}") from None
-    reader = Reader(text)
-    value = reader.value(0)
-    if reader.kind != "end":
-        reader.refuse()
-    return value
-
-
-SHORT = {'"': '\\"', "\\": "\\\\", "\b": "\\b", "\t": "\\t", "\n": "\\n", "\f": "\\f", "\r": "\\r"}
-
-
-def quoted(text):
-    return '"' + "".join(SHORT.get(c) or (f"\\u{ord(c):04x}" if ord(c) < 0x20 else c) for c in text) + '"'
-
-
-def number_text(units):
-    whole, rest = divmod(abs(units), 10 ** PLACES)
-    text = str(whole) + (f".{rest:018d}".rstrip("0") if rest else "")
-    return "-" + text if units < 0 else text
-
-
-def text_of(value):
-    """The canonical text."""
-    what = kind(value)
-    if what in ("null", "bool"):
-        return {None: "null", True: "true", False: "false"}[value]
-    if what == "number":
-        return number_text(value.units)
-    if what == "text":
-        return quoted(value)
-    if what == "date":
-        return '{"$date":%d}' % value.moment
-    if what == "list":
-        return "[" + ",".join(map(text_of, value)) + "]"
-    return "{" + ",".join(quoted(k) + ":" + text_of(v) for k, v in value.pairs) + "}"
-
-
-# ---- documents ----
-
-def names_in(value):
-    """All member names, in the order of the text."""
-    if isinstance(value, list):
-        for item in value:
-            yield from names_in(item)
-    elif isinstance(value, Members):
-        for name, inner in value.pairs:
-            yield name
-            yield from names_in(inner)
-
-
-def parts_in(value, path=()):
-    """Each value with its path."""
-    yield path, value
-    inner = []
-    if isinstance(value, list):
-        inner = [(str(i), item) for i, item in enumerate(value)]
-    elif isinstance(value, Members):
-        inner = value.pairs
-    for part, item in inner:
-        yield from parts_in(item, path + (part,))
-
-
-def levels(value):
-    inner = value if isinstance(value, list) else [v for _, v in value.pairs] if isinstance(value, Members) else None
-    return 0 if inner is None else 1 + max([levels(v) for v in inner], default=0)
-
-
-def size(text):
-    return len(text.encode())
-
-
-def limit_fault(document):
-    """The first broken limit: (number, bound, found)."""
-    values = [value for _, value in parts_in(document)]
-    names = [size(name) for name in names_in(document)]
-    objects = [len(value.pairs) for value in values if isinstance(value, Members)]
-    lists = [len(value) for value in values if isinstance(value, list)]
-    paths = [size(".".join(path)) for path, _ in parts_in(document)]
-    texts = [size(value) for value in values if isinstance(value, str)]
-    counts = [(1, 1_000_000, size(text_of(document))), (2, 16, levels(document)), (3, 1, min(names, default=1)),
-              (4, 100, max(names, default=0)), (5, 1_000, max(paths)), (6, 1_000, max(objects, default=0)),
-              (7, 2_000, sum(objects)), (8, 1_000, max(lists, default=0)), (9, 8_000, max(texts, default=0))]
-    for number, bound, found in counts:
-        if (found < bound) if number == 3 else (found > bound):
-            return number, bound, found
-    return None
-
-
-def judge_document(document):
-    """Refuses a document that may not be stored."""
-    document_id = document.get("_id")
-    if document_id is ABSENT or isinstance(document_id, (list, Members)):
-        raise Fault("SHRED_BAD_DOCID_TYPE", "Field _id is of the wrong kind")
-    if document_id == "" and isinstance(document_id, str):
-        raise Fault("SHRED_BAD_DOCID_EMPTY_STRING", "Field _id is an empty text")
-    for name in names_in(document):
-        if not NAME.match(name):
-            raise Fault("SHRED_DOC_KEY_NAME_VIOLATION", f"Member name is not allowed: {name}")
-    broken = limit_fault(document)
-    if broken:
-        raise Fault("SHRED_DOC_LIMIT_VIOLATION", "Document limit %d is %d, found %d" % broken)
-
+import views
+from values import (ABSENT, COLLECTION, NAME, PLACES, RANGE, SCALARS, Date, Fault, Members, Number, id_key, judge_document,
+                    kind, limit_fault, names_in, ordered, path_parts, quoted, read, same, scalar_key, size, text_of,
+                    value_at, whole)
 
 # ---- filters ----
 
 RANGES = {"$gt": lambda a, b: a > b, "$gte": lambda a, b: a >= b, "$lt": lambda a, b: a < b, "$lte": lambda a, b: a <= b}
 OPERATORS = ["$eq", "$ne", *RANGES, "$in", "$nin", "$exists", "$all", "$size"]
-
-
-def path_parts(text):
-    parts = text.split(".")
-    good = 1 <= size(text) <= 1000 and all(1 <= size(part) <= 100 and NAME.match(part) for part in parts)
-    return parts if good else None
-
-
-def value_at(value, parts):
-    for part in parts:
-        if isinstance(value, Members):
-            value = value.get(part)
-        elif isinstance(value, list) and re.match(r"(0|[1-9][0-9]*)\Z", part) and int(part) < len(value):
-            value = value[int(part)]
-        else:
-            return ABSENT
-        if value is ABSENT:
-            return ABSENT
-    return value
 
 
 def invalid(path):
@@ -448,21 +80,16 @@ def read_operator(path, operator, operand):
         if not isinstance(operand, bool):
             raise invalid(path)
         return lambda found: (found is not ABSENT) == operand
-    length, rest = divmod(operand.units, 10 ** PLACES) if isinstance(operand, Number) else (0, 1)
-    if rest or not 0 <= length <= 1_000_000:
+    length = whole(operand, 0, 1_000_000)
+    if length is None:
         raise invalid(path)
     return lambda found: isinstance(found, list) and len(found) == length
-
-
-def ordered(value):
-    return {"number": lambda: value.units, "date": lambda: value.moment, "text": lambda: value.encode()}[kind(value)]()
 
 
 # ---- updates ----
 
 UPDATE_OPERATORS = ["$set", "$unset", "$inc", "$mul", "$min", "$max", "$rename", "$push", "$pop", "$addToSet",
                     "$setOnInsert", "$currentDate"]
-SCALARS = ["null", "number", "text", "bool", "date"]
 UPDATE_PARAM = "UNSUPPORTED_UPDATE_OPERATION_PARAM"
 
 
@@ -480,8 +107,8 @@ def form_of(operand, placed):
         return None
     if place is ABSENT:
         return values, None
-    place, rest = divmod(place.units, 10 ** PLACES) if isinstance(place, Number) else (0, 1)
-    return None if rest or not -2 ** 63 <= place < 2 ** 63 else (values, place)
+    place = whole(place, *views.I64)
+    return None if place is None else (values, place)
 
 
 def good_operand(operator, operand):
@@ -580,10 +207,6 @@ def product(a, b):
     return None if rest or units >= RANGE else units if (a < 0) == (b < 0) else -units
 
 
-def scalar_key(value):
-    return SCALARS.index(kind(value)), int(value) if isinstance(value, bool) else 0 if value is None else ordered(value)
-
-
 def put_by(operator, path, operand, found):
     """What an operator that goes by the value there puts there, or ABSENT."""
     if operator == "$set":
@@ -623,8 +246,8 @@ def put_in_list(operator, path, operand, items, is_new):
     return items
 
 
-def apply_updates(clauses, document):
-    """The new document; the update of an existing one has no moment here, so `$currentDate` isn't asked for."""
+def apply_updates(clauses, document, moment):
+    """The new document, where the one that is there is updated at this moment."""
     for operator, path, operand in clauses:
         parts = path_parts(path)
         found = value_at(document, parts)
@@ -632,6 +255,8 @@ def apply_updates(clauses, document):
             continue
         if operator == "$unset":
             document = take(document, parts)
+        elif operator == "$currentDate":
+            document = put(document, parts, Date(moment), path)
         elif operator == "$rename":
             document = put(take(document, parts), path_parts(operand), found, operand)
         else:
@@ -645,26 +270,101 @@ def apply_updates(clauses, document):
 
 # ---- requests ----
 
-ROWS = {"insertOne": {"document": ("object", True)}, "findOne": {"filter": ("object", False)},
-        "countDocuments": {"filter": ("object", False)},
-        "updateOne": {"filter": ("object", False), "update": ("object", True)}}
-OPTIONS = {"updateOne": []}
-TAGS = {"text": 1, "number": 2, "bool": 3, "null": 4, "date": 5}
+OBJECT = ("object", False)
+ROWS = {"insertOne": {"document": ("object", True)},
+        "findOne": {"filter": OBJECT, "sort": OBJECT, "projection": OBJECT},
+        "find": {"filter": OBJECT, "sort": OBJECT, "projection": OBJECT},
+        "countDocuments": {"filter": OBJECT},
+        "updateOne": {"filter": OBJECT, "update": ("object", True), "sort": OBJECT}}
 
 
-def id_key(value):
-    what = kind(value)
-    key = ordered(value) if what in ("text", "number", "date") else 0 if value is None else int(value)
-    return TAGS[what], key
+def is_bound(value):
+    return whole(value, 0, 2 ** 31 - 1) is not None
+
+
+OPTIONS = {"find": {"limit": is_bound, "skip": is_bound, "pageState": lambda value: value is None or isinstance(value, str)},
+           "updateOne": {}}
+PAGE = 20
+MOST_SORTED = 10_000
+
+
+def refuse_field(field):
+    raise Fault("COMMAND_FIELD_INVALID", f"Command field invalid: {field}")
+
+
+def member(value, name):
+    """The member of this name, or an empty object."""
+    found = value.get(name)
+    return Members([]) if found is ABSENT else found
+
+
+def count_of(value):
+    return 0 if value is ABSENT else whole(value, 0, 2 ** 31 - 1)
+
+
+def judge_members(name, wanted):
+    """Refuses a command of which the members aren't those that it has."""
+    if not isinstance(wanted, Members):
+        refuse_field(name)
+    row = ROWS[name]
+    for field, value in wanted.pairs:
+        if field == "options" and name in OPTIONS and isinstance(value, Members):
+            for option, inner in value.pairs:
+                if option not in OPTIONS[name] or not OPTIONS[name][option](inner):
+                    refuse_field("options." + option)
+        elif field not in row or kind(value) != row[field][0]:
+            refuse_field(field)
+    for field, (_, required) in row.items():
+        if required and wanted.get(field) is ABSENT:
+            refuse_field(field)
+    sorts, options = member(wanted, "sort").pairs != [], member(wanted, "options")
+    if not sorts and count_of(options.get("skip")) != 0:
+        refuse_field("options.skip")
+    if sorts and isinstance(options.get("pageState"), str):
+        refuse_field("options.pageState")
+
+
+def judge_bounds(wanted):
+    """Refuses a command that asks for too much."""
+    skip = count_of(member(wanted, "options").get("skip"))
+    for field, bound, found in [("skip", 480, skip), ("sort", 8, len(member(wanted, "sort").pairs))]:
+        if found > bound:
+            raise Fault("COMMAND_LIMIT_VIOLATION", f"Command limit {field} is {bound}, found {found}")
+
+
+class Search:
+    """What a command looks for, what it does there, and what it shows; read in the order in which it is judged."""
+
+    def __init__(self, name, wanted):
+        self.matches = read_filter(member(wanted, "filter"))
+        self.clauses = read_updates(member(wanted, "update"))
+        self.rules = views.read_projection(member(wanted, "projection"))
+        self.keys = views.read_sort(member(wanted, "sort"))
+        options = member(wanted, "options")
+        self.limit, self.skip = count_of(options.get("limit")), count_of(options.get("skip"))
+        state = options.get("pageState")
+        self.given, self.after = views.read_state(state) if isinstance(state, str) else (0, ABSENT)
+
+    def found(self, rows):
+        """The documents that match, in order."""
+        documents = [rows[key][1] for key in sorted(rows) if self.after is ABSENT or key > id_key(self.after)]
+        documents = [document for document in documents if self.matches(document)]
+        if self.keys and len(documents) > MOST_SORTED:
+            raise Fault("DATASET_TOO_BIG", "More than 10000 documents to sort")
+        return views.sort(self.keys, documents)
+
+    def view(self, document):
+        return text_of(views.view(self.rules, document))
 
 
 class Service:
-    """The living collections of a keyspace, and the last number given."""
+    """The living collections of a keyspace, the last number given, and the time."""
 
-    def __init__(self, collections, keyspace="ks"):
+    def __init__(self, collections, keyspace="ks", last=0, moment=0):
         self.rows = {name: {} for name in collections}
         self.keyspace = keyspace
-        self.last = 0
+        self.last = last
+        self.moment = moment
 
     def reply(self, path, body):
         try:
@@ -674,73 +374,72 @@ class Service:
 
     def answer(self, path, body):
         value = read(body)
-        name, wanted = self.command(path, value)
-        keyspace, collection = path[0], path[1]
+        names = value.names() if isinstance(value, Members) else []
+        if len(names) != 1 or names[0] not in ROWS or len(path) != 2:
+            raise Fault("NO_COMMAND_MATCHED", "No command matched")
+        name, wanted = value.pairs[0]
+        keyspace, collection = path
         if keyspace != self.keyspace:
             raise Fault("KEYSPACE_NOT_EXIST", f"Keyspace {keyspace} does not exist")
         if not COLLECTION.match(collection):
             raise Fault("INVALID_COLLECTION_NAME", f"Collection name is invalid: {collection}")
-        self.judge_members(name, wanted)
+        judge_members(name, wanted)
+        judge_bounds(wanted)
+        search = Search(name, wanted)
         if name == "insertOne":
             judge_document(wanted.get("document"))
-        else:
-            given = wanted.get("filter")
-            matches = read_filter(Members([]) if given is ABSENT else given)
-        clauses = read_updates(wanted.get("update")) if name == "updateOne" else []
+            self.next_number()
         if collection not in self.rows:
             raise Fault("COLLECTION_NOT_EXIST", f"Collection {collection} does not exist")
         rows = self.rows[collection]
         if name == "insertOne":
             return self.insert(rows, wanted.get("document"))
-        found = [document for _, (_, document) in sorted(rows.items()) if matches(document)]
-        if name == "updateOne":
-            return self.update(rows, clauses, found)
-        if name == "findOne":
-            return '{"data":{"document":%s}}' % (text_of(found[0]) if found else "null")
-        more = ',"moreData":true' if len(found) > 1000 else ""
-        return '{"status":{"count":%d%s}}' % (min(len(found), 1000), more)
+        serve = {"findOne": self.find_one, "find": self.find, "countDocuments": self.count, "updateOne": self.update}
+        return serve[name](rows, search)
 
-    def command(self, path, value):
-        names = value.names() if isinstance(value, Members) else []
-        if len(names) != 1 or names[0] not in ROWS or len(path) != 2:
-            raise Fault("NO_COMMAND_MATCHED", "No command matched")
-        return names[0], value.pairs[0][1]
+    def next_number(self):
+        if self.last + 1 >= 2 ** 63 - 1:
+            raise Fault("VERSIONS_SPENT", "No version numbers are left")
+        return self.last + 1
 
-    def judge_members(self, name, wanted):
-        def refuse(field):
-            raise Fault("COMMAND_FIELD_INVALID", f"Command field invalid: {field}")
-
-        if not isinstance(wanted, Members):
-            refuse(name)
-        row = ROWS[name]
-        for member, value in wanted.pairs:
-            if member == "options" and name in OPTIONS and isinstance(value, Members):
-                for option in value.names():
-                    refuse("options." + option)
-            elif member not in row or kind(value) != row[member][0]:
-                refuse(member)
-        for member, (_, required) in row.items():
-            if required and wanted.get(member) is ABSENT:
-                refuse(member)
+    def write(self, rows, document):
+        self.last = self.next_number()
+        rows[id_key(document.get("_id"))] = self.last, document
 
     def insert(self, rows, document):
         key = id_key(document.get("_id"))
         text = text_of(document.get("_id"))
         if key in rows:
             raise Fault("DOCUMENT_ALREADY_EXISTS", f"Document {text} already exists at version {rows[key][0]}")
-        self.last += 1
-        rows[key] = self.last, document
+        self.write(rows, document)
         return '{"status":{"insertedIds":[%s]}}' % text
 
+    def find_one(self, rows, search):
+        found = search.found(rows)
+        return '{"data":{"document":%s}}' % (search.view(found[0]) if found else "null")
 
-    def update(self, rows, clauses, found):
+    def find(self, rows, search):
+        found = search.found(rows)[search.skip:]
+        room = min(PAGE, max(search.limit - search.given, 0)) if search.limit else PAGE
+        page, state = found[:room], "null"
+        given = search.given + len(page)
+        if len(page) == PAGE and not search.keys and (search.limit == 0 or given < search.limit):
+            state = quoted(views.print_state(min(given, 2 ** 63 - 1), page[-1].get("_id")))
+        return '{"data":{"documents":[%s],"nextPageState":%s}}' % (",".join(map(search.view, page)), state)
+
+    def count(self, rows, search):
+        found = search.found(rows)
+        more = ',"moreData":true' if len(found) > 1000 else ""
+        return '{"status":{"count":%d%s}}' % (min(len(found), 1000), more)
+
+    def update(self, rows, search):
+        found = search.found(rows)
         changed = False
         if found:
-            document = apply_updates(clauses, found[0])
+            document = apply_updates(search.clauses, found[0], self.moment)
             changed = not same(document, found[0])
         if changed:
-            self.last += 1
-            rows[id_key(document.get("_id"))] = self.last, document
+            self.write(rows, document)
         return '{"status":{"matchedCount":%d,"modifiedCount":%d}}' % (len(found[:1]), changed)
 
 

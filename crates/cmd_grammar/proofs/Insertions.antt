@@ -1,23 +1,24 @@
 -- The command that is read, after the tests.
-use Rattle.std.proofs.Common.{◌≡◌, ◌≢◌, inl, inr, ℕ, List, [], ◌∷◌, Option, Some, None, refl, ap, sym, ◌∙◌, subst, codes, Bool, true, false, if◌then◌else◌, IsTrue}
+use Rattle.std.proofs.Common.{◌≡◌, ◌≢◌, ◌<◌, ◌≤◌, ◌^◌, inl, inr, ℕ, List, [], ◌∷◌, Option, Some, None, refl, ap, sym, ◌∙◌, subst, codes, Bool, true, false, if◌then◌else◌, IsTrue}
 use Rattle.std.specs.Prelude.{Result, Ok, Err, IfOk, OnOk}
-use Rattle.std.specs.Option.{option_map, option_and_then, unwrap_or}
+use Rattle.std.specs.Option.{option_map, option_and_then, unwrap_or, IfSome}
 use Rattle.std.specs.Str.{bytes_eq}
 use Rattle.std.proofs.lemmas.Slice.Eq.{bytes_eq-Decides}
 use Rattle.json_tree.specs.Tree.{Tree, null, boolean, number, text, date, list, object, Members, no_members, member, list_of_members}
 use Rattle.json_tree.specs.Members.{member_at}
 use Rattle.json_tree.specs.View.{tree}
 use Rattle.doc_paths.specs.Name.{is_collection_name}
-use Rattle.filter_tree.specs.Filters.{FilterTree}
-use Rattle.update_ops.specs.Clauses.{Clause}
+use Rattle.filter_tree.specs.View.{filter_tree}
+use Rattle.view_sort.specs.declared.page.PageState.{PageState}
 use Rattle.reply_env.specs.Messages.{bad_collection_name, no_keyspace}
 use Rattle.reply_env.specs.declared.reply.ErrorItem.{ErrorItem}
 use Rattle.reply_env.specs.declared.request.Place.{Place}
 use Rattle.cmd_grammar.specs.First.{first_of}
 use Rattle.cmd_grammar.specs.Names.{command_named, command_text}
-use Rattle.cmd_grammar.specs.Commands.{CommandTree, insert_one, find_one, count_documents, update_one, command_tree, IsStorable, IsAskable}
-use Rattle.cmd_grammar.specs.Refused.{command_at, member_in, refused, no_command_refusal, keyspace_refusal, collection_refusal, command_refusal}
-use Rattle.cmd_grammar.specs.Asked.{filter_of, updates_of, document_of, command_of, command_in, asked, IsPlaced}
+use Rattle.cmd_grammar.specs.Commands.{CommandTree, insert_one, find_one, find, count_documents, update_one, Paging, command_tree, IsStorable, IsAskable, IsAskableFilter, IsAskablePaging}
+use Rattle.cmd_grammar.specs.Parts.{member_in, updates_of, sort_of, shows_of, document_of, limit_of, skip_of, page_text, IsPage}
+use Rattle.cmd_grammar.specs.Refused.{command_at, refused, no_command_refusal, keyspace_refusal, collection_refusal, command_refusal}
+use Rattle.cmd_grammar.specs.Asked.{command_of, Asks, IsPlaced}
 use Rattle.json_text.specs.Grammar.{Reads}
 use Rattle.json_text.specs.Fault.{IsFault}
 use Rattle.json_text.specs.declared.read.TextFault.{TextFault}
@@ -25,15 +26,18 @@ use Rattle.json_text.specs.declared.read.TextFault.TheVariants as text_faults
 use Rattle.reply_env.specs.Messages.{unread}
 use Rattle.reply_env.specs.declared.request.Request.{Request}
 use Rattle.cmd_grammar.specs.Requests.{IsReadAs}
-use Rattle.cmd_grammar.specs.Judged.{IsJudged, IsInsertion, IsInsertionOf}
+use Rattle.cmd_grammar.specs.Judged.{AreParts, IsJudged, without_document, IsInsertion, IsInsertionOf}
+use Rattle.cmd_grammar.specs.declared.parts.Parts.{Parts}
 use Rattle.cmd_grammar.specs.Answers.{Passes, Refuses, Answers}
 use Rattle.cmd_grammar.specs.declared.name.Name.{Name}
-use Rattle.cmd_grammar.specs.declared.name.Name.TheVariants.{InsertOne, FindOne, CountDocuments, UpdateOne}
+use Rattle.cmd_grammar.specs.declared.name.Name.TheVariants.{InsertOne, FindOne, Find, CountDocuments, UpdateOne}
 use Rattle.cmd_grammar.specs.declared.command.Command.{Command}
 use Rattle.cmd_grammar.specs.declared.command.Command.TheVariants as commands
 use Rattle.cmd_grammar.specs.declared.fault.CommandFault.{CommandFault}
 use Rattle.cmd_grammar.specs.declared.fault.CommandFault.TheVariants.{Refused, NoMemory}
 use Rattle.cmd_grammar.proofs.Order.{neither_fires}
+use Rattle.cmd_grammar.proofs.Judging.{page_is}
+use Rattle.cmd_grammar.proofs.Bounds.{number_small}
 use Rattle.cmd_grammar.proofs.Table.{named_text}
 
 -- ---- the value of the command, by the command's name
@@ -49,7 +53,7 @@ at_name n u inner name (Some k) e h =
     let same : k ≡ name = ap (λ (q : Name × Tree). q.0) pair in
     let value : u ≡ inner = ap (λ (q : Name × Tree). q.1) pair in
     let is : command_named n ≡ Some name = sym e ∙ ap (λ (x : Name). Some x) same in
-    let its : command_text name ≡ n = named_text (InsertOne ∷ FindOne ∷ CountDocuments ∷ UpdateOne ∷ []) n name is in
+    let its : command_text name ≡ n = named_text (InsertOne ∷ FindOne ∷ Find ∷ CountDocuments ∷ UpdateOne ∷ []) n name is in
     found_here (bytes_eq n (command_text name)) u ((bytes_eq-Decides n (command_text name)).1 (sym its)) ∙ ap (λ (x : Tree). Some x) value
 
 pub at_member : (o : Option (List ℕ)) (t inner : Tree) (name : Name) → command_at o t ≡ Some (name, inner) → member_in (command_text name) t ≡ Some inner
@@ -66,13 +70,18 @@ at_member (Some c) (list ts) inner name e = absurd (Prim.cc e)
 
 -- ---- the command
 
-pub asked_is : (place : Place) (t : Tree) (name : Name) (f : FilterTree) (u : List Clause) (j : IsJudged place t name f u) → asked place t ≡ Some (command_of name f u (document_of j.inner))
-asked_is place t name f u j =
-    ap (option_map command_in) j.is_at ∙ ap (λ (g : FilterTree). Some (command_of name g (updates_of j.inner) (document_of j.inner))) (sym j.are_parts.0)
-    ∙ ap (λ (w : List Clause). Some (command_of name f w (document_of j.inner))) (sym j.are_parts.1)
+pub asked_is : (place : Place) (t : Tree) (name : Name) (p : Parts) (k : CommandTree) (j : IsJudged place t name p) → command_of p.listing.page (name, j.inner) ≡ k → Asks place t k
+asked_is place t name p k j e = record {
+  page = p.listing.page;
+  is_page = subst (λ o. IsPage o p.listing.page) (page_is place t (name, j.inner) (sym j.is_at)) j.are_parts.listing.page;
+  is_command = ap (option_map (command_of p.listing.page)) j.is_at ∙ ap (λ (c : CommandTree). Some c) e;
+}
 
-pub insertion_is : (place : Place) (t : Tree) (f : FilterTree) (u : List Clause) → IsJudged place t InsertOne f u → IsInsertion t
-insertion_is place t f u j = record { inner = j.inner; is_value = at_member place.collection t j.inner InsertOne j.is_at; storable = j.parts }
+pub insertion_is : (place : Place) (t : Tree) (name : Name) (p : Parts) → name ≡ InsertOne → IsJudged place t name p → IsInsertion t
+insertion_is place t name p e j = go (subst (λ (n : Name). IsJudged place t n p) e j)
+  where
+    go : IsJudged place t InsertOne p → IsInsertion t
+    go i = record { inner = i.inner; is_value = at_member place.collection t i.inner InsertOne i.is_at; storable = i.sound.document }
 
 -- the document of an insertion
 document_is : (t inner d : Tree) → member_in (codes "insertOne") t ≡ Some inner → option_and_then (member_in (codes "document")) (member_in (codes "insertOne") t) ≡ Some d → document_of inner ≡ d
@@ -80,13 +89,71 @@ document_is t inner d e h =
     let found : member_in (codes "document") inner ≡ Some d = sym (ap (option_and_then (member_in (codes "document"))) e) ∙ h in
     ap (λ (o : Option Tree). unwrap_or o null) found
 
-pub inserted : (place : Place) (t : Tree) (f : FilterTree) (u : List Clause) (k : CommandTree) → IsJudged place t InsertOne f u → IsInsertionOf t k → (asked place t ≡ Some k) × IsAskable k
-inserted place t f u (insert_one d) j h =
+inserted : (place : Place) (t : Tree) (p : Parts) (k : CommandTree) → IsJudged place t InsertOne p → IsInsertionOf t k → Asks place t k × IsAskable k
+inserted place t p (insert_one d) j h =
     let same : document_of j.inner ≡ d = document_is t j.inner d (at_member place.collection t j.inner InsertOne j.is_at) h in
-    (asked_is place t InsertOne f u j ∙ ap (λ (x : Tree). Some (insert_one x)) same, subst IsStorable same j.parts)
-inserted place t f u (find_one g) j h = absurd h
-inserted place t f u (count_documents g) j h = absurd h
-inserted place t f u (update_one g w) j h = absurd h
+    (asked_is place t InsertOne p (insert_one d) j (ap (λ (x : Tree). insert_one x) same), subst IsStorable same j.sound.document)
+inserted place t p (find_one f sort shows) j h = absurd h
+inserted place t p (find f sort shows paging) j h = absurd h
+inserted place t p (count_documents f) j h = absurd h
+inserted place t p (update_one f updates sort) j h = absurd h
+
+-- ---- the command that takes no document
+
+pub no_document : (name : Name) (p : Parts) → None ≡ without_document name p → name ≡ InsertOne
+no_document InsertOne p e = refl
+no_document FindOne p e = absurd (Prim.cc e)
+no_document Find p e = absurd (Prim.cc e)
+no_document CountDocuments p e = absurd (Prim.cc e)
+no_document UpdateOne p e = absurd (Prim.cc e)
+
+abbrev paging : ℕ → ℕ → Option PageState → Paging
+paging limit skip page = record { limit = limit; skip = skip; page = page }
+
+paged : (t : Tree) (p : Parts) → AreParts t p → paging (limit_of t) (skip_of t) p.listing.page ≡ paging p.listing.limit p.listing.skip p.listing.page
+paged t p a = ap (λ n. paging n (skip_of t) p.listing.page) (sym a.listing.limit) ∙ ap (λ n. paging p.listing.limit n p.listing.page) (sym a.listing.skip)
+
+made_of : (name : Name) (t : Tree) (p : Parts) (k : CommandTree) → AreParts t p → Some k ≡ without_document name p → command_of p.listing.page (name, t) ≡ k
+made_of InsertOne t p k a e = absurd (Prim.cc e)
+made_of FindOne t p k a e =
+    let same : find_one (filter_tree p.filter) p.listing.sort p.listing.projection ≡ k = sym (Prim.cc e) in
+    ap (λ f. find_one f (sort_of t) (shows_of t)) (sym a.filter) ∙ ap (λ s. find_one (filter_tree p.filter) s (shows_of t)) (sym a.listing.sort) ∙ ap (find_one (filter_tree p.filter) p.listing.sort) (sym a.listing.projection) ∙ same
+made_of Find t p k a e =
+    let same : find (filter_tree p.filter) p.listing.sort p.listing.projection (paging p.listing.limit p.listing.skip p.listing.page) ≡ k = sym (Prim.cc e) in
+    ap (λ f. find f (sort_of t) (shows_of t) (paging (limit_of t) (skip_of t) p.listing.page)) (sym a.filter) ∙ ap (λ s. find (filter_tree p.filter) s (shows_of t) (paging (limit_of t) (skip_of t) p.listing.page)) (sym a.listing.sort) ∙ ap (λ v. find (filter_tree p.filter) p.listing.sort v (paging (limit_of t) (skip_of t) p.listing.page)) (sym a.listing.projection)
+    ∙ ap (find (filter_tree p.filter) p.listing.sort p.listing.projection) (paged t p a) ∙ same
+made_of CountDocuments t p k a e = let same : count_documents (filter_tree p.filter) ≡ k = sym (Prim.cc e) in ap count_documents (sym a.filter) ∙ same
+made_of UpdateOne t p k a e =
+    let same : update_one (filter_tree p.filter) p.updates p.listing.sort ≡ k = sym (Prim.cc e) in
+    ap (λ f. update_one f (updates_of t) (sort_of t)) (sym a.filter) ∙ ap (λ u. update_one (filter_tree p.filter) u (sort_of t)) (sym a.updates) ∙ ap (update_one (filter_tree p.filter) p.updates) (sym a.listing.sort) ∙ same
+
+pub made_asks : (place : Place) (t : Tree) (name : Name) (p : Parts) (k : CommandTree) → Some k ≡ without_document name p → IsJudged place t name p → Asks place t k
+made_asks place t name p k e j = asked_is place t name p k j (made_of name j.inner p k j.are_parts e)
+
+given_small : (o : Option (List ℕ)) (page : Option PageState) → IsPage o page → IfSome page (λ s. s.given < 2 ^ 63)
+given_small None None h = tt
+given_small None (Some state) h = absurd h
+given_small (Some s) None h = absurd h
+given_small (Some s) (Some state) h = h.given
+
+askable_paging : (t : Tree) (p : Parts) → AreParts t p → skip_of t ≤ 480 → IsAskablePaging (paging p.listing.limit p.listing.skip p.listing.page)
+askable_paging t p a skip = record {
+  limit = subst (λ (n : ℕ). n < 2 ^ 31) (sym a.listing.limit) (number_small (codes "limit") t);
+  skip = subst (λ (n : ℕ). n ≤ 480) (sym a.listing.skip) skip;
+  given = given_small (page_text t) p.listing.page a.listing.page;
+}
+
+made_askable : (name : Name) (t : Tree) (p : Parts) (k : CommandTree) → AreParts t p → skip_of t ≤ 480 → IsAskableFilter (filter_tree p.filter) → Some k ≡ without_document name p → IsAskable k
+made_askable InsertOne t p k a skip f e = absurd (Prim.cc e)
+made_askable FindOne t p k a skip f e = let same : find_one (filter_tree p.filter) p.listing.sort p.listing.projection ≡ k = sym (Prim.cc e) in subst IsAskable same f
+made_askable Find t p k a skip f e =
+    let same : find (filter_tree p.filter) p.listing.sort p.listing.projection (paging p.listing.limit p.listing.skip p.listing.page) ≡ k = sym (Prim.cc e) in
+    subst IsAskable same (f, askable_paging t p a skip)
+made_askable CountDocuments t p k a skip f e = let same : count_documents (filter_tree p.filter) ≡ k = sym (Prim.cc e) in subst IsAskable same f
+made_askable UpdateOne t p k a skip f e = let same : update_one (filter_tree p.filter) p.updates p.listing.sort ≡ k = sym (Prim.cc e) in subst IsAskable same f
+
+pub made_ready : (place : Place) (t : Tree) (name : Name) (p : Parts) (k : CommandTree) → Some k ≡ without_document name p → IsJudged place t name p → IsAskableFilter (filter_tree p.filter) → IsAskable k
+made_ready place t name p k e j f = made_askable name j.inner p k j.are_parts j.sound.skip f e
 
 -- ---- the place
 
@@ -114,24 +181,18 @@ placed_of keyspace place t p e h =
 
 -- ---- the insertion that was read
 
-pub named_insertion : (place : Place) (t : Tree) (name : Name) (f : FilterTree) (u : List Clause) → name ≡ InsertOne → IsJudged place t name f u → IsInsertion t
-named_insertion place t name f u e j = insertion_is place t f u (subst (λ (n : Name). IsJudged place t n f u) e j)
+pub answers_insertion : (keyspace : List ℕ) (place : Place) (t : Tree) (name : Name) (p : Parts) (r : Result Command CommandFault) → refused keyspace place t ≡ None → name ≡ InsertOne → IsJudged place t name p → Passes None (λ c. IsInsertionOf t (command_tree c)) r → Answers keyspace place t r
+answers_insertion keyspace place t name p (Ok c) h e j i = (h, (inserted place t p (command_tree c) (subst (λ (n : Name). IsJudged place t n p) e j) i.1).0)
+answers_insertion keyspace place t name p (Err NoMemory) h e j i = tt
+answers_insertion keyspace place t name p (Err (Refused code message)) h e j i = absurd (Prim.cc i)
 
-pub answers_insertion : (keyspace : List ℕ) (place : Place) (t : Tree) (name : Name) (f : FilterTree) (u : List Clause) (r : Result Command CommandFault) → refused keyspace place t ≡ None → name ≡ InsertOne → IsJudged place t name f u → Passes None (λ c. IsInsertionOf t (command_tree c)) r → Answers keyspace place t r
-answers_insertion keyspace place t name f u (Ok c) h e j p = (h, (inserted place t f u (command_tree c) (subst (λ (n : Name). IsJudged place t n f u) e j) p.1).0)
-answers_insertion keyspace place t name f u (Err NoMemory) h e j p = tt
-answers_insertion keyspace place t name f u (Err (Refused code message)) h e j p = absurd (Prim.cc p)
-
-pub ready_insertion : (place : Place) (t : Tree) (name : Name) (f : FilterTree) (u : List Clause) (r : Result Command CommandFault) → name ≡ InsertOne → IsJudged place t name f u → Passes None (λ c. IsInsertionOf t (command_tree c)) r → IfOk r (λ c. IsAskable (command_tree c))
-ready_insertion place t name f u (Ok c) e j p = (inserted place t f u (command_tree c) (subst (λ (n : Name). IsJudged place t n f u) e j) p.1).1
-ready_insertion place t name f u (Err fault) e j p = tt
+pub ready_insertion : (place : Place) (t : Tree) (name : Name) (p : Parts) (r : Result Command CommandFault) → name ≡ InsertOne → IsJudged place t name p → Passes None (λ c. IsInsertionOf t (command_tree c)) r → IfOk r (λ c. IsAskable (command_tree c))
+ready_insertion place t name p (Ok c) e j i = (inserted place t p (command_tree c) (subst (λ (n : Name). IsJudged place t n p) e j) i.1).1
+ready_insertion place t name p (Err fault) e j i = tt
 
 pub placed_insertion : (P : Type 0) (r : Result Command CommandFault) → P → OnOk r P
 placed_insertion P (Ok c) p = p
 placed_insertion P (Err fault) p = tt
-
-pub asks : (place : Place) (t : Tree) (name wanted : Name) (f : FilterTree) (u : List Clause) → name ≡ wanted → (j : IsJudged place t name f u) → asked place t ≡ Some (command_of wanted f u (document_of j.inner))
-asks place t name wanted f u e j = asked_is place t name f u j ∙ ap (λ (n : Name). Some (command_of n f u (document_of j.inner))) e
 
 -- ---- its parts in the body
 

@@ -1,6 +1,7 @@
 -- The members of an object, as a list.
-use Rattle.std.proofs.Common.{◌≡◌, ◌≢◌, ℕ, List, [], ◌∷◌, length, Option, Some, None, refl, ap, ap₂, sym, ◌∙◌, subst, slice_get, arith, codes, Bool, true, false, if◌then◌else◌}
+use Rattle.std.proofs.Common.{◌≡◌, ◌≢◌, ℕ, List, [], ◌∷◌, length, map, Option, Some, None, refl, ap, ap₂, sym, ◌∙◌, subst, slice_get, arith, codes, Bool, true, false, if◌then◌else◌}
 use Rattle.std.specs.Option.{option_map, option_and_then, unwrap_or}
+use Rattle.std.proofs.lemmas.List.{length-map}
 use Rattle.std.specs.Str.{bytes_eq}
 use Rattle.json_tree.specs.Tree.{Tree, null, boolean, number, text, date, list, object, Members, no_members, member, members_of, list_of_members}
 use Rattle.json_tree.specs.Members.{member_at}
@@ -10,7 +11,9 @@ use Rattle.cmd_grammar.specs.First.{first_by}
 use Rattle.cmd_grammar.specs.Names.{command_named}
 use Rattle.cmd_grammar.specs.Rows.{Field, Row, row}
 use Rattle.cmd_grammar.specs.Fields.{option_refusal, options_refusal, members_refusal}
-use Rattle.cmd_grammar.specs.Refused.{command_at, member_in, fields_refusal}
+use Rattle.view_sort.specs.Sort.{sort_in, key_of_member}
+use Rattle.cmd_grammar.specs.Parts.{member_in, sort_of}
+use Rattle.cmd_grammar.specs.Refused.{command_at, fields_refusal}
 use Rattle.cmd_grammar.specs.declared.name.Name.{Name}
 
 pub listed : (ms : List (List ℕ × Tree)) → list_of_members (members_of ms) ≡ ms
@@ -25,6 +28,13 @@ fields_are name t r ms e f = ap₂ members_refusal e (sym (listed ms)) ∙ ap (�
 
 pub member_is : (name : List ℕ) (t : Tree) (ms : List (List ℕ × Tree)) → t ≡ object (members_of ms) → member_at name ms ≡ member_in name t
 member_is name t ms f = ap (member_at name) (sym (listed ms)) ∙ ap (member_in name) (sym f)
+
+-- ---- how many paths a sort has
+
+pub sort_length : (t v : Tree) (ms : List (List ℕ × Tree)) → Some v ≡ member_in (codes "sort") t → v ≡ object (members_of ms) → length ms ≡ length (sort_of t)
+sort_length t v ms e f =
+    sym (length-map ms key_of_member) ∙ ap (λ (l : List (List ℕ × Tree)). length (map key_of_member l)) (sym (listed ms)) ∙ ap (λ (u : Tree). length (sort_in u)) (sym f)
+    ∙ ap (λ (o : Option Tree). length (sort_in (unwrap_or o (object no_members)))) e
 
 -- ---- an object of one member
 

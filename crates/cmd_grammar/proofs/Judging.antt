@@ -1,5 +1,5 @@
 -- The tests of a request, joined.
-use Rattle.std.proofs.Common.{◌≡◌, ℕ, List, [], ◌∷◌, Option, Some, None, refl, ap, sym, ◌∙◌, subst, codes, Bool, true, false, ◌&&◌, IsTrue, if◌then◌else◌}
+use Rattle.std.proofs.Common.{◌≡◌, ◌≤◌, ℕ, List, [], ◌∷◌, Option, Some, None, refl, ap, sym, ◌∙◌, subst, codes, Bool, true, false, ◌&&◌, IsTrue, if◌then◌else◌}
 use Rattle.std.specs.Option.{option_map, option_and_then, option_or, unwrap_or, is_none, IfSome}
 use Rattle.json_tree.specs.Tree.{Tree, null, boolean, number, text, date, list, object, Members, no_members, member, list_of_members}
 use Rattle.json_tree.specs.Members.{member_at}
@@ -11,65 +11,46 @@ use Rattle.reply_env.specs.declared.request.Place.{Place}
 use Rattle.cmd_grammar.specs.First.{first_of, first_by}
 use Rattle.cmd_grammar.specs.Names.{command_named, command_text, named_among}
 use Rattle.cmd_grammar.specs.Rows.{row}
-use Rattle.cmd_grammar.specs.Fields.{member_refusal, missing_refusal, members_refusal}
+use Rattle.cmd_grammar.specs.Fields.{member_refusal, missing_refusal, members_refusal, paging_refusal}
 use Rattle.cmd_grammar.specs.Documents.{document_refusal}
 use Rattle.cmd_grammar.specs.Commands.{IsStorable}
-use Rattle.cmd_grammar.specs.Refused.{command_at, member_in, fields_refusal, filter_refusal, update_refusal, inserted_refusal, command_refusal, keyspace_refusal, collection_refusal, no_command_refusal, refused}
-use Rattle.cmd_grammar.specs.Asked.{document_of}
-use Rattle.cmd_grammar.specs.Judged.{HasParts, named_refusal}
+use Rattle.cmd_grammar.specs.Parts.{member_in, skip_of, page_text}
+use Rattle.cmd_grammar.specs.Refused.{command_at, page_at, fields_refusal, filter_refusal, update_refusal, parts_refusal, inserted_refusal, command_refusal, keyspace_refusal, collection_refusal, no_command_refusal, refused}
+use Rattle.cmd_grammar.specs.Judged.{AreParts, HasDocument, IsSound, listing_refusal, named_refusal}
+use Rattle.cmd_grammar.specs.declared.parts.Parts.{Parts}
 use Rattle.std.specs.Prelude.{Result, Ok, Err, IfOk, MatchResult}
 use Rattle.reply_env.specs.declared.fault.ReplyFault.{ReplyFault}
 use Rattle.cmd_grammar.specs.declared.fault.CommandFault.TheVariants.{NoMemory}
-use Rattle.cmd_grammar.specs.Answers.{Refuses, Passes}
+use Rattle.cmd_grammar.specs.Answers.{Refuses, Passes, RefusesFirst, PassesAll}
 use Rattle.cmd_grammar.specs.declared.name.Name.{Name}
-use Rattle.cmd_grammar.specs.declared.name.Name.TheVariants.{InsertOne, FindOne, CountDocuments, UpdateOne}
+use Rattle.cmd_grammar.specs.declared.name.Name.TheVariants.{InsertOne, FindOne, Find, CountDocuments, UpdateOne}
 use Rattle.cmd_grammar.specs.declared.fault.CommandFault.{CommandFault}
-use Rattle.cmd_grammar.proofs.Order.{neither_fires, goes_on, refuses_first, refuses_later}
+use Rattle.cmd_grammar.proofs.Order.{neither_fires, goes_on, refuses_first, refuses_before, fires, decides}
 use Rattle.cmd_grammar.proofs.Table.{named_text}
 
 -- ---- a command's value
 
--- the tests behind that of the members, and behind that of the filter
-abbrev behind_fields : Tree → List (Option ErrorItem)
-behind_fields t = filter_refusal t ∷ update_refusal t ∷ inserted_refusal t ∷ []
+only : {E : Type 0} (a : Option E) → option_or a None ≡ a
+only None = refl
+only (Some x) = refl
 
-abbrev behind_filter : Tree → List (Option ErrorItem)
-behind_filter t = update_refusal t ∷ inserted_refusal t ∷ []
+pub member_fires : (name : Name) (t : Tree) (fault : CommandFault) → Refuses (fields_refusal (name, t)) fault → RefusesFirst (command_refusal (name, t)) (page_text t) fault
+member_fires name t fault r = refuses_before (command_refusal (name, t)) (page_text t) fault (fires [] (fields_refusal (name, t)) (paging_refusal t ∷ parts_refusal t ∷ []) fault tt r)
 
-pub fields_fire : (name : Name) (t : Tree) (fault : CommandFault) → Refuses (fields_refusal (name, t)) fault → Refuses (command_refusal (name, t)) fault
-fields_fire name t fault r = refuses_first (fields_refusal (name, t)) (first_of (behind_fields t)) fault r
-
-pub filter_fires : (name : Name) (t : Tree) (fault : CommandFault) → fields_refusal (name, t) ≡ None → Refuses (filter_refusal t) fault → Refuses (command_refusal (name, t)) fault
-filter_fires name t fault none r =
-    refuses_later (fields_refusal (name, t)) (first_of (behind_fields t)) fault none
-    (refuses_first (filter_refusal t) (first_of (behind_filter t)) fault r)
-
-pub update_fires : (name : Name) (t : Tree) (fault : CommandFault) → fields_refusal (name, t) ≡ None → filter_refusal t ≡ None → Refuses (update_refusal t) fault → Refuses (command_refusal (name, t)) fault
-update_fires name t fault a b r =
-    refuses_later (fields_refusal (name, t)) (first_of (behind_fields t)) fault a
-    (refuses_later (filter_refusal t) (first_of (behind_filter t)) fault b
-    (refuses_first (update_refusal t) (first_of (inserted_refusal t ∷ [])) fault r))
-
-pub document_fires : (name : Name) (t : Tree) (fault : CommandFault) → fields_refusal (name, t) ≡ None → filter_refusal t ≡ None → update_refusal t ≡ None → Refuses (inserted_refusal t) fault → Refuses (command_refusal (name, t)) fault
-document_fires name t fault a b u r =
-    refuses_later (fields_refusal (name, t)) (first_of (behind_fields t)) fault a
-    (refuses_later (filter_refusal t) (first_of (behind_filter t)) fault b
-    (refuses_later (update_refusal t) (first_of (inserted_refusal t ∷ [])) fault u
-    (refuses_first (inserted_refusal t) None fault r)))
-
-pub none_fires : (name : Name) (t : Tree) → fields_refusal (name, t) ≡ None → filter_refusal t ≡ None → update_refusal t ≡ None → inserted_refusal t ≡ None → command_refusal (name, t) ≡ None
-none_fires name t a b u d =
-    goes_on (fields_refusal (name, t)) (first_of (behind_fields t)) a
-    ∙ goes_on (filter_refusal t) (first_of (behind_filter t)) b
-    ∙ goes_on (update_refusal t) (first_of (inserted_refusal t ∷ [])) u
-    ∙ goes_on (inserted_refusal t) None d
+pub paging_fires : (name : Name) (t : Tree) (fault : CommandFault) → fields_refusal (name, t) ≡ None → Refuses (paging_refusal t) fault → RefusesFirst (command_refusal (name, t)) (page_text t) fault
+paging_fires name t fault none r = refuses_before (command_refusal (name, t)) (page_text t) fault (fires (fields_refusal (name, t) ∷ []) (paging_refusal t) (parts_refusal t ∷ []) fault (none, tt) r)
 
 -- ---- a request
 
-pub unnamed : (keyspace : List ℕ) (place : Place) (t : Tree) (fault : CommandFault) → None ≡ command_at place.collection t → Refuses (Some no_command) fault → Refuses (refused keyspace place t) fault
+pub unnamed : (keyspace : List ℕ) (place : Place) (t : Tree) (fault : CommandFault) → None ≡ command_at place.collection t → Refuses (Some no_command) fault → RefusesFirst (refused keyspace place t) (page_at place t) fault
 unnamed keyspace place t fault e r =
-    refuses_first (no_command_refusal (command_at place.collection t)) (first_of (keyspace_refusal keyspace place.keyspace ∷ collection_refusal place.collection ∷ option_and_then command_refusal (command_at place.collection t) ∷ [])) fault
-    (subst (λ o. Refuses (no_command_refusal o) fault) e r)
+    refuses_before (refused keyspace place t) (page_at place t) fault
+    (refuses_first (no_command_refusal (command_at place.collection t)) (first_of (keyspace_refusal keyspace place.keyspace ∷ collection_refusal place.collection ∷ option_and_then command_refusal (command_at place.collection t) ∷ [])) fault
+    (subst (λ o. Refuses (no_command_refusal o) fault) e r))
+
+-- the page state of the command's value is that of the request
+pub page_is : (place : Place) (t : Tree) (p : Name × Tree) → Some p ≡ command_at place.collection t → page_text p.1 ≡ page_at place t
+page_is place t p e = ap (option_and_then (λ (command : Name × Tree). page_text command.1)) e
 
 regroup : (k c x : Option ErrorItem) → option_or k (option_or c (option_or x None)) ≡ option_or (option_or k (option_or c None)) x
 regroup (Some k) c x = refl
@@ -84,11 +65,12 @@ is_named keyspace place t p e =
     let P : Option (Name × Tree) → Type 0 = λ o. option_or (first_of (K ∷ C ∷ [])) (command_refusal p) ≡ first_of (no_command_refusal o ∷ K ∷ C ∷ option_and_then command_refusal o ∷ []) in
     subst P e (sym (regroup K C (command_refusal p)))
 
-pub place_fires : (keyspace : List ℕ) (place : Place) (p : Name × Tree) (fault : CommandFault) → Refuses (first_of (keyspace_refusal keyspace place.keyspace ∷ collection_refusal place.collection ∷ [])) fault → Refuses (named_refusal keyspace place p) fault
-place_fires keyspace place p fault r = refuses_first (first_of (keyspace_refusal keyspace place.keyspace ∷ collection_refusal place.collection ∷ [])) (command_refusal p) fault r
+pub named_fires : (keyspace : List ℕ) (place : Place) (t : Tree) (p : Name × Tree) (fault : CommandFault) → Some p ≡ command_at place.collection t → RefusesFirst (named_refusal keyspace place p) (page_text p.1) fault → RefusesFirst (refused keyspace place t) (page_at place t) fault
+named_fires keyspace place t p fault e r = subst (λ o. RefusesFirst (refused keyspace place t) o fault) (page_is place t p e) (subst (λ o. RefusesFirst o (page_text p.1) fault) (is_named keyspace place t p e) r)
 
-pub command_decides : {X : Type 0} (keyspace : List ℕ) (place : Place) (p : Name × Tree) (Said : X → Type 0) (r : Result X CommandFault) → first_of (keyspace_refusal keyspace place.keyspace ∷ collection_refusal place.collection ∷ []) ≡ None → Passes (command_refusal p) Said r → Passes (named_refusal keyspace place p) Said r
-command_decides keyspace place p Said r none h = subst (λ o. Passes o Said r) (sym (goes_on (first_of (keyspace_refusal keyspace place.keyspace ∷ collection_refusal place.collection ∷ [])) (command_refusal p) none)) h
+pub place_fires : (keyspace : List ℕ) (place : Place) (p : Name × Tree) (fault : CommandFault) → Refuses (first_of (keyspace_refusal keyspace place.keyspace ∷ collection_refusal place.collection ∷ [])) fault → RefusesFirst (named_refusal keyspace place p) (page_text p.1) fault
+place_fires keyspace place p fault r =
+    refuses_before (named_refusal keyspace place p) (page_text p.1) fault (refuses_first (first_of (keyspace_refusal keyspace place.keyspace ∷ collection_refusal place.collection ∷ [])) (command_refusal p) fault r)
 
 pub made : (m : Result ErrorItem ReplyFault) (error : ErrorItem) (fault : CommandFault) → IfOk m (λ e. e ≡ error) → MatchResult m (λ e. Refuses (Some e) fault) (λ _. fault ≡ NoMemory) → Refuses (Some error) fault
 made (Ok e) error fault is r = subst (λ (x : ErrorItem). Refuses (Some x) fault) is r
@@ -116,11 +98,34 @@ storable : (t : Tree) (o : Option Tree) → (o ≡ None → ⊥) → IfSome o Is
 storable t None h s = absurd (h refl)
 storable t (Some d) h s = s
 
-pub parts : (name : Name) (t : Tree) → fields_refusal (name, t) ≡ None → IfSome (member_in (codes "document") t) IsStorable → HasParts name t
-parts InsertOne t h s = storable t (member_in (codes "document") t) (has_document t h) s
-parts FindOne t h s = tt
-parts CountDocuments t h s = tt
-parts UpdateOne t h s = tt
+stored : (name : Name) (t : Tree) → fields_refusal (name, t) ≡ None → IfSome (member_in (codes "document") t) IsStorable → HasDocument name t
+stored InsertOne t h s = storable t (member_in (codes "document") t) (has_document t h) s
+stored FindOne t h s = tt
+stored Find t h s = tt
+stored CountDocuments t h s = tt
+stored UpdateOne t h s = tt
+
+-- the filter and the update are read: the tests behind them decide
+behind_update : (t : Tree) → filter_refusal t ≡ None → update_refusal t ≡ None → parts_refusal t ≡ listing_refusal t
+behind_update t a b = goes_on (filter_refusal t) (option_or (update_refusal t) (listing_refusal t)) a ∙ goes_on (update_refusal t) (listing_refusal t) b
+
+pub listing_fires : (t : Tree) (fault : CommandFault) → filter_refusal t ≡ None → update_refusal t ≡ None → RefusesFirst (listing_refusal t) (page_text t) fault → RefusesFirst (parts_refusal t) (page_text t) fault
+listing_fires t fault a b r = subst (λ o. RefusesFirst o (page_text t) fault) (sym (behind_update t a b)) r
+
+pub parts_pass : (t : Tree) → filter_refusal t ≡ None → update_refusal t ≡ None → listing_refusal t ≡ None → parts_refusal t ≡ None
+parts_pass t a b n = behind_update t a b ∙ n
+
+-- the tests of the members and of the page are made: those of the parts decide
+pub parts_decide : (name : Name) (t : Tree) (r : Result Parts CommandFault) → fields_refusal (name, t) ≡ None → paging_refusal t ≡ None → skip_of t ≤ 480
+    → PassesAll (parts_refusal t) (page_text t) (λ p. AreParts t p × IfSome (member_in (codes "document") t) IsStorable) r → PassesAll (command_refusal (name, t)) (page_text t) (λ p. AreParts t p × IsSound name t) r
+parts_decide name t r a b skip h =
+    decides (fields_refusal (name, t)) (first_of (paging_refusal t ∷ parts_refusal t ∷ [])) (page_text t) (λ p. AreParts t p × IsSound name t) r a
+    (decides (paging_refusal t) (first_of (parts_refusal t ∷ [])) (page_text t) (λ p. AreParts t p × IsSound name t) r b
+    (subst (λ o. PassesAll o (page_text t) (λ p. AreParts t p × IsSound name t) r) (sym (only (parts_refusal t))) (sound r h)))
+  where
+    sound : (r : Result Parts CommandFault) → PassesAll (parts_refusal t) (page_text t) (λ p. AreParts t p × IfSome (member_in (codes "document") t) IsStorable) r → PassesAll (parts_refusal t) (page_text t) (λ p. AreParts t p × IsSound name t) r
+    sound (Ok p) h = (h.0, (h.1.0, record { document = stored name t a h.1.1; skip = skip }))
+    sound (Err fault) h = h
 
 -- ---- the value of a command
 

@@ -1,8 +1,10 @@
+pub mod Bounds
 pub mod Insertions
 pub mod Inside
 pub mod Judging
 pub mod Order
+pub mod Page
+pub mod Part
 pub mod Storing
 pub mod Table
-pub mod Wanted
 pub mod Update

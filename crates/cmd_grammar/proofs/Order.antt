@@ -1,10 +1,11 @@
 -- Tests one behind the other.
-use Rattle.std.proofs.Common.{◌≡◌, ◌+◌, ℕ, List, drop, Option, Some, None, refl, sym, ap, ◌∙◌, slice_get}
+use Rattle.std.proofs.Common.{◌≡◌, ◌+◌, ℕ, List, [], ◌∷◌, ◌++◌, drop, Option, Some, None, inl, refl, sym, subst, ap, ◌∙◌, slice_get}
+use Rattle.std.specs.Prelude.{Result}
 use Rattle.std.specs.Option.{option_or}
 use Rattle.json_tree.specs.Sizes.{drop-at}
 use Rattle.reply_env.specs.declared.reply.ErrorItem.{ErrorItem}
-use Rattle.cmd_grammar.specs.First.{first_by}
-use Rattle.cmd_grammar.specs.Answers.{Refuses}
+use Rattle.cmd_grammar.specs.First.{first_of, first_by}
+use Rattle.cmd_grammar.specs.Answers.{Refuses, RefusesFirst, PassesAll}
 use Rattle.cmd_grammar.specs.declared.fault.CommandFault.{CommandFault}
 use Rattle.cmd_grammar.specs.declared.fault.CommandFault.TheVariants.{Refused, NoMemory}
 
@@ -40,3 +41,27 @@ refuses_first a b NoMemory e = tt
 pub refuses_later : (a b : Option ErrorItem) (fault : CommandFault) → a ≡ None → Refuses b fault → Refuses (option_or a b) fault
 refuses_later a b (Refused code message) none e = goes_on a b none ∙ e
 refuses_later a b NoMemory none e = tt
+
+-- ---- several tests
+
+abbrev pub AllNone : List (Option ErrorItem) → Type 0
+AllNone [] = Unit {0}
+AllNone (test ∷ tests) = (test ≡ None) × AllNone tests
+
+pub none_of : (tests : List (Option ErrorItem)) → AllNone tests → first_of tests ≡ None
+none_of [] n = refl
+none_of (test ∷ tests) n = goes_on test (first_of tests) n.0 ∙ none_of tests n.1
+
+-- the one behind these fires
+pub fires : (before : List (Option ErrorItem)) (test : Option ErrorItem) (behind : List (Option ErrorItem)) (fault : CommandFault) → AllNone before → Refuses test fault → Refuses (first_of (before ++ (test ∷ behind))) fault
+fires [] test behind fault n r = refuses_first test (first_of behind) fault r
+fires (a ∷ before) test behind fault n r = refuses_later a (first_of (before ++ (test ∷ behind))) fault n.0 (fires before test behind fault n.1 r)
+
+-- ---- with the page state, which is tested last
+
+pub refuses_before : (a : Option ErrorItem) (page : Option (List ℕ)) (fault : CommandFault) → Refuses a fault → RefusesFirst a page fault
+refuses_before a page (Refused code message) e = inl e
+refuses_before a page NoMemory e = tt
+
+pub decides : {X : Type 0} (a b : Option ErrorItem) (page : Option (List ℕ)) (Said : X → Type 0) (r : Result X CommandFault) → a ≡ None → PassesAll b page Said r → PassesAll (option_or a b) page Said r
+decides a b page Said r none h = subst (λ o. PassesAll o page Said r) (sym (goes_on a b none)) h

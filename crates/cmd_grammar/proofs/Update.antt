@@ -8,8 +8,8 @@ use Rattle.update_ops.specs.Faults.{first_fault, updates_in}
 use Rattle.update_ops.specs.declared.update.Updates.{Updates}
 use Rattle.update_ops.specs.declared.fault.UpdateFault.{UpdateFault}
 use Rattle.update_ops.specs.declared.fault.UpdateFault.TheVariants as faults
-use Rattle.cmd_grammar.specs.Refused.{member_in, update_error, update_refusal}
-use Rattle.cmd_grammar.specs.Asked.{updates_of}
+use Rattle.cmd_grammar.specs.Refused.{update_error, update_refusal}
+use Rattle.cmd_grammar.specs.Parts.{member_in, updates_of}
 use Rattle.cmd_grammar.specs.Answers.{Refuses, Passes}
 use Rattle.cmd_grammar.specs.declared.fault.CommandFault.{CommandFault}
 

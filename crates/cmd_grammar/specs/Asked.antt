@@ -1,41 +1,29 @@
 -- What a request without a refusal asks for.
-use Rattle.std.specs.Prelude.{◌≡◌, ℕ, List, Option, Some, None, codes, unwrap_or, IsTrue}
+use Rattle.std.specs.Prelude.{◌≡◌, ℕ, List, Option, Some, IsTrue}
 use Rattle.std.specs.Option.{option_map}
-use Rattle.json_tree.specs.Tree.{Tree, null, object, no_members}
+use Rattle.json_tree.specs.Tree.{Tree}
 use Rattle.doc_paths.specs.Name.{is_collection_name}
-use Rattle.filter_tree.specs.Filters.{FilterTree}
-use Rattle.filter_tree.specs.Reads.{filter_in}
-use Rattle.update_ops.specs.Clauses.{Clause}
-use Rattle.update_ops.specs.Faults.{updates_in}
+use Rattle.view_sort.specs.declared.page.PageState.{PageState}
 use Rattle.reply_env.specs.declared.request.Place.{Place}
-use Rattle.cmd_grammar.specs.Commands.{CommandTree, insert_one, find_one, count_documents, update_one}
-use Rattle.cmd_grammar.specs.Refused.{command_at, member_in}
+use Rattle.cmd_grammar.specs.Commands.{CommandTree, insert_one, find_one, find, count_documents, update_one}
+use Rattle.cmd_grammar.specs.Parts.{filter_of, updates_of, sort_of, shows_of, document_of, limit_of, skip_of, IsPage}
+use Rattle.cmd_grammar.specs.Refused.{command_at, page_at}
 use Rattle.cmd_grammar.specs.declared.name.Name.{Name}
-use Rattle.cmd_grammar.specs.declared.name.Name.TheVariants.{InsertOne, FindOne, CountDocuments, UpdateOne}
+use Rattle.cmd_grammar.specs.declared.name.Name.TheVariants.{InsertOne, FindOne, Find, CountDocuments, UpdateOne}
 
--- an absent filter is `{}`
-abbrev pub filter_of : Tree → FilterTree
-filter_of t = filter_in (unwrap_or (member_in (codes "filter") t) (object no_members))
+-- the command of this name with this value, and with this page state
+abbrev pub command_of : Option PageState → Name × Tree → CommandTree
+command_of page (InsertOne, t) = insert_one (document_of t)
+command_of page (FindOne, t) = find_one (filter_of t) (sort_of t) (shows_of t)
+command_of page (Find, t) = find (filter_of t) (sort_of t) (shows_of t) (record { limit = limit_of t; skip = skip_of t; page = page })
+command_of page (CountDocuments, t) = count_documents (filter_of t)
+command_of page (UpdateOne, t) = update_one (filter_of t) (updates_of t) (sort_of t)
 
--- an absent update is `{}`
-abbrev pub updates_of : Tree → List Clause
-updates_of t = updates_in (unwrap_or (member_in (codes "update") t) (object no_members))
-
-abbrev pub document_of : Tree → Tree
-document_of t = unwrap_or (member_in (codes "document") t) null
-
--- the command of this name with these parts
-abbrev pub command_of : Name → FilterTree → List Clause → Tree → CommandTree
-command_of InsertOne filter updates document = insert_one document
-command_of FindOne filter updates document = find_one filter
-command_of CountDocuments filter updates document = count_documents filter
-command_of UpdateOne filter updates document = update_one filter updates
-
-abbrev pub command_in : Name × Tree → CommandTree
-command_in command = command_of command.0 (filter_of command.1) (updates_of command.1) (document_of command.1)
-
-abbrev pub asked : Place → Tree → Option CommandTree
-asked place value = option_map command_in (command_at place.collection value)
+-- the value asks for this command at the place
+pub record Asks (place : Place) (value : Tree) (command : CommandTree) : Type 0 where
+  pub page : Option PageState
+  pub is_page : IsPage (page_at place value) page
+  pub is_command : option_map (command_of page) (command_at place.collection value) ≡ Some command
 
 -- the place is a collection of the keyspace
 pub record IsPlaced (own : List ℕ) (place : Place) : Type 0 where

@@ -1,12 +1,13 @@
--- What may be wrong with the members of a command.
-use Rattle.std.specs.Prelude.{ℕ, Bool, true, false, ◌&&◌, List, [], ◌∷◌, Option, Some, None, codes, is_none, if◌then◌else◌}
+-- What may be wrong with the members of a command, and with their numbers.
+use Rattle.std.specs.Prelude.{ℕ, ◌==◌, nat_le, Bool, true, false, not, ◌&&◌, List, [], ◌∷◌, length, Option, Some, None, codes, is_none, is_some, if◌then◌else◌}
 use Rattle.std.specs.Str.{bytes_eq}
 use Rattle.std.specs.Option.{option_or}
 use Rattle.json_tree.specs.Tree.{Tree, object, list_of_members}
 use Rattle.json_tree.specs.Members.{member_at}
-use Rattle.reply_env.specs.Messages.{bad_field, bad_option}
+use Rattle.reply_env.specs.Messages.{bad_field, bad_option, command_limit}
 use Rattle.reply_env.specs.declared.reply.ErrorItem.{ErrorItem}
-use Rattle.cmd_grammar.specs.First.{first_by}
+use Rattle.cmd_grammar.specs.First.{first_of, first_by}
+use Rattle.cmd_grammar.specs.Parts.{sort_of, skip_of, page_text}
 use Rattle.cmd_grammar.specs.Rows.{Field, Row, fits}
 
 -- an option that the command doesn't have, or of a wrong kind
@@ -31,3 +32,29 @@ missing_refusal ms field = if field.required && is_none (member_at field.name ms
 -- the members in written order, then those that are missing, in the order of the table
 abbrev pub members_refusal : Row → List (List ℕ × Tree) → Option ErrorItem
 members_refusal row ms = option_or (first_by (member_refusal row) ms) (first_by (missing_refusal ms) row.members)
+
+-- ---- sorts and pages
+
+-- a sort of no paths is none
+abbrev pub is_sorted : Tree → Bool
+is_sorted t = not (length (sort_of t) == 0)
+
+-- documents are skipped under a sort alone
+abbrev pub skip_refusal : Tree → Option ErrorItem
+skip_refusal t = if not (is_sorted t) && not (skip_of t == 0) then Some (bad_option (codes "skip")) else None
+
+-- a page state goes with no sort
+abbrev pub page_refusal : Tree → Option ErrorItem
+page_refusal t = if is_sorted t && is_some (page_text t) then Some (bad_option (codes "pageState")) else None
+
+-- more are skipped than may be
+abbrev pub many_skipped : Tree → Option ErrorItem
+many_skipped t = if nat_le (skip_of t) 480 then None else Some (command_limit (codes "skip") 480 (skip_of t))
+
+-- the sort has more paths than it may have
+abbrev pub many_paths : Tree → Option ErrorItem
+many_paths t = if nat_le (length (sort_of t)) 8 then None else Some (command_limit (codes "sort") 8 (length (sort_of t)))
+
+-- in this order
+abbrev pub paging_refusal : Tree → Option ErrorItem
+paging_refusal t = first_of (skip_refusal t ∷ page_refusal t ∷ many_skipped t ∷ many_paths t ∷ [])

@@ -6,6 +6,7 @@ pub mod Fields
 pub mod First
 pub mod Judged
 pub mod Names
+pub mod Parts
 pub mod Refused
 pub mod Requests
 pub mod Rows

@@ -1,9 +1,8 @@
 -- The first refusal of a request that its place and the value of its body show.
-use Rattle.std.specs.Prelude.{ℕ, List, [], ◌∷◌, Option, Some, None, option_and_then, if◌then◌else◌, codes}
+use Rattle.std.specs.Prelude.{◌≡◌, ℕ, List, [], ◌∷◌, Option, Some, None, ◌⊎◌, option_and_then, if◌then◌else◌, codes}
 use Rattle.std.specs.Str.{bytes_eq}
-use Rattle.std.specs.Option.{option_map}
+use Rattle.std.specs.Option.{option_map, option_or}
 use Rattle.json_tree.specs.Tree.{Tree, object, Members, no_members, member, list_of_members}
-use Rattle.json_tree.specs.Members.{member_at}
 use Rattle.doc_paths.specs.Name.{is_collection_name}
 use Rattle.filter_tree.specs.Faults.{first_fault}
 use Rattle.filter_tree.specs.declared.fault.FilterFault.{FilterFault}
@@ -11,13 +10,18 @@ use Rattle.filter_tree.specs.declared.fault.FilterFault.TheVariants as filter_fa
 use Rattle.update_ops.specs.Faults as updates
 use Rattle.update_ops.specs.declared.fault.UpdateFault.{UpdateFault}
 use Rattle.update_ops.specs.declared.fault.UpdateFault.TheVariants as update_faults
-use Rattle.reply_env.specs.Messages.{no_command, no_keyspace, bad_collection_name, bad_field, bad_filter, many_operands, no_filter_operator, no_update_operator, bad_update_operand, update_conflict, id_unchangeable, wrong_update_target, number_out_of_range, broken_limit, out_of_memory}
+use Rattle.view_sort.specs.Projection.{projection_fault}
+use Rattle.view_sort.specs.Sort.{sort_fault}
+use Rattle.view_sort.specs.declared.fault.ViewFault.{ViewFault}
+use Rattle.view_sort.specs.declared.fault.ViewFault.TheVariants as view_faults
+use Rattle.reply_env.specs.Messages.{no_command, no_keyspace, bad_collection_name, bad_field, bad_filter, many_operands, no_filter_operator, no_update_operator, bad_update_operand, update_conflict, id_unchangeable, wrong_update_target, number_out_of_range, broken_limit, bad_projection, bad_sort, bad_page_state, out_of_memory}
 use Rattle.reply_env.specs.declared.reply.ErrorItem.{ErrorItem}
 use Rattle.reply_env.specs.declared.request.Place.{Place}
 use Rattle.cmd_grammar.specs.First.{first_of}
 use Rattle.cmd_grammar.specs.Names.{command_named, command_text}
+use Rattle.cmd_grammar.specs.Parts.{member_in, page_text, IsNoPage}
 use Rattle.cmd_grammar.specs.Rows.{row}
-use Rattle.cmd_grammar.specs.Fields.{members_refusal}
+use Rattle.cmd_grammar.specs.Fields.{members_refusal, paging_refusal}
 use Rattle.cmd_grammar.specs.Documents.{document_refusal}
 use Rattle.cmd_grammar.specs.declared.name.Name.{Name}
 
@@ -28,10 +32,9 @@ abbrev pub command_at : Option (List ℕ) → Tree → Option (Name × Tree)
 command_at (Some collection) (object (member name t no_members)) = option_map (λ command. (command, t)) (command_named name)
 command_at collection t = None
 
--- a member of a command's value
-abbrev pub member_in : List ℕ → Tree → Option Tree
-member_in name (object ms) = member_at name (list_of_members ms)
-member_in name t = None
+-- the text of its page state, where it has one
+abbrev pub page_at : Place → Tree → Option (List ℕ)
+page_at place value = option_and_then (λ command. page_text command.1) (command_at place.collection value)
 
 -- ---- the tests
 
@@ -78,15 +81,33 @@ update_error update_faults.NoMemory = out_of_memory 0
 abbrev pub update_refusal : Tree → Option ErrorItem
 update_refusal t = option_map update_error (option_and_then updates.first_fault (member_in (codes "update") t))
 
+abbrev pub view_error : ViewFault → ErrorItem
+view_error (view_faults.BadProjection path) = bad_projection path
+view_error (view_faults.BadSort path) = bad_sort path
+view_error view_faults.BadPageState = bad_page_state
+view_error view_faults.NoMemory = out_of_memory 0
+
+-- the projection can't be read
+abbrev pub projection_refusal : Tree → Option ErrorItem
+projection_refusal t = option_map view_error (option_and_then projection_fault (member_in (codes "projection") t))
+
+-- the sort can't be read
+abbrev pub sort_refusal : Tree → Option ErrorItem
+sort_refusal t = option_map view_error (option_and_then sort_fault (member_in (codes "sort") t))
+
 -- the document may not be stored
 abbrev pub inserted_refusal : Tree → Option ErrorItem
 inserted_refusal t = option_and_then document_refusal (member_in (codes "document") t)
 
+-- the tests of what the members spell, in their order
+abbrev pub parts_refusal : Tree → Option ErrorItem
+parts_refusal t = first_of (filter_refusal t ∷ update_refusal t ∷ projection_refusal t ∷ sort_refusal t ∷ inserted_refusal t ∷ [])
+
 -- the tests of a command and its value, in their order
 abbrev pub command_refusal : Name × Tree → Option ErrorItem
-command_refusal command = first_of (fields_refusal command ∷ filter_refusal command.1 ∷ update_refusal command.1 ∷ inserted_refusal command.1 ∷ [])
+command_refusal command = first_of (fields_refusal command ∷ paging_refusal command.1 ∷ parts_refusal command.1 ∷ [])
 
--- the tests of a request, in their order
+-- the tests of a request, in their order, but for that of the page state
 abbrev pub refused : List ℕ → Place → Tree → Option ErrorItem
 refused keyspace place value =
     first_of
@@ -95,3 +116,11 @@ refused keyspace place value =
     ∷ collection_refusal place.collection
     ∷ option_and_then command_refusal (command_at place.collection value)
     ∷ [])
+
+-- this is the first refusal: that the text of a page state spells none is tested last
+abbrev pub IsFirst : Option ErrorItem → Option (List ℕ) → ErrorItem → Type 0
+IsFirst refusal page error = (refusal ≡ Some error) ⊎ ((refusal ≡ None) × IsNoPage page × (error ≡ bad_page_state))
+
+-- the first refusal that the place and the value show
+abbrev pub IsRefusedBy : List ℕ → Place → Tree → ErrorItem → Type 0
+IsRefusedBy keyspace place value error = IsFirst (refused keyspace place value) (page_at place value) error

@@ -9,8 +9,8 @@ use Rattle.reply_env.specs.Messages.{unread}
 use Rattle.reply_env.specs.declared.reply.ErrorItem.{ErrorItem}
 use Rattle.reply_env.specs.declared.request.Request.{Request}
 use Rattle.cmd_grammar.specs.Commands.{CommandTree, command_tree}
-use Rattle.cmd_grammar.specs.Refused.{refused}
-use Rattle.cmd_grammar.specs.Asked.{asked}
+use Rattle.cmd_grammar.specs.Refused.{refused, IsRefusedBy}
+use Rattle.cmd_grammar.specs.Asked.{Asks}
 use Rattle.cmd_grammar.specs.declared.command.Command.{Command}
 use Rattle.cmd_grammar.specs.declared.fault.CommandFault.{CommandFault}
 use Rattle.cmd_grammar.specs.declared.fault.CommandFault.TheVariants.{Refused, NoMemory}
@@ -26,7 +26,7 @@ pub record IsUnread (body : List ℕ) (error : ErrorItem) : Type 0 where
 pub record IsRefusedValue (keyspace : List ℕ) (request : Request) (error : ErrorItem) : Type 0 where
   pub value : Tree
   pub reads : Reads request.body.items value
-  pub refusal : refused keyspace request.place value ≡ Some error
+  pub refusal : IsRefusedBy keyspace request.place value error
 
 -- the request is refused by this error before anything else is looked at
 abbrev pub IsRefused : List ℕ → Request → ErrorItem → Type 0
@@ -37,7 +37,7 @@ pub record AsksFor (keyspace : List ℕ) (request : Request) (command : CommandT
   pub value : Tree
   pub reads : Reads request.body.items value
   pub unrefused : refused keyspace request.place value ≡ None
-  pub asks : asked request.place value ≡ Some command
+  pub asks : Asks request.place value command
 
 -- the command, or the refusal; want of memory may come at any place
 abbrev pub IsReadAs : List ℕ → Request → Result Command CommandFault → Type 0

@@ -8,7 +8,7 @@ ghost use Rattle.filter_tree.specs.Reads.{filter_in};
 ghost use Rattle.filter_tree.specs.declared.fault.FilterFault.{FilterFault};
 ghost use Rattle.cmd_grammar.specs.declared.fault.CommandFault.{CommandFault};
 ghost use Rattle.cmd_grammar.specs.Refused.{filter_error, filter_refusal};
-ghost use Rattle.cmd_grammar.specs.Asked.{filter_of};
+ghost use Rattle.cmd_grammar.specs.Parts.{filter_of};
 ghost use Rattle.cmd_grammar.specs.Commands.{IsAskableFilter};
 ghost use Rattle.cmd_grammar.specs.Answers.{Passes, Refuses};
 

@@ -9,9 +9,13 @@ mod fields;
 mod filters;
 mod members;
 mod name;
+mod numbers;
+mod paging;
+mod parts;
 mod reading;
 mod row;
 mod updates;
+mod views;
 
 pub use command::Command;
 pub use fault::CommandFault;

@@ -1,7 +1,7 @@
 // The members of a value.
 ghost use Rattle.std.specs.Prelude.{◌≡◌, option_map};
 ghost use Rattle.json_tree.specs.View.{tree};
-ghost use Rattle.cmd_grammar.specs.Refused.{member_in};
+ghost use Rattle.cmd_grammar.specs.Parts.{member_in, option_in};
 
 use json_tree::Value;
 
@@ -12,6 +12,16 @@ pub(crate) fn member<'v>(value: &'v Value, name: &str) -> Option<&'v Value>
     match value {
         Value::Object(members) => members.get(name),
         _ => None,
+    }
+}
+
+/// A member of a command's options.
+pub(crate) fn option<'v>(command: &'v Value, name: &str) -> Option<&'v Value>
+    ensures { option_map (λ v. tree v.now) result ≡ option_in name.now (tree command.now) }
+{
+    match member(command, "options") {
+        Some(options) => member(options, name),
+        None => None,
     }
 }
 

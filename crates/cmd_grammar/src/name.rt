@@ -9,6 +9,7 @@ use name_tables::commands;
 pub(crate) enum Name {
     InsertOne,
     FindOne,
+    Find,
     CountDocuments,
     UpdateOne,
 }
@@ -18,7 +19,7 @@ const IN_ORDER: [Option<Name>; 15] = [
     Some(Name::InsertOne),
     None,
     Some(Name::FindOne),
-    None,
+    Some(Name::Find),
     Some(Name::CountDocuments),
     Some(Name::UpdateOne),
     None,
@@ -57,6 +58,7 @@ impl Name {
         match self {
             Name::InsertOne => "insertOne",
             Name::FindOne => "findOne",
+            Name::Find => "find",
             Name::CountDocuments => "countDocuments",
             Name::UpdateOne => "updateOne",
         }

@@ -1,41 +1,32 @@
 // The reader of commands.
-ghost use Rattle.std.specs.Prelude.{◌≡◌, ◌≢◌, ⊤, codes, option_map, Some, None, IfOk, IfSome, OnOk};
+ghost use Rattle.std.specs.Prelude.{◌≡◌, ◌≢◌, ⊤, option_map, Some, None, IfOk, OnOk};
 ghost use Rattle.json_text.specs.declared.read.TextFault.{TextFault};
 ghost use Rattle.reply_env.specs.Messages as errors;
 ghost use Rattle.cmd_grammar.specs.declared.fault.CommandFault.{CommandFault};
 ghost use Rattle.json_tree.specs.View.{tree};
 ghost use Rattle.json_tree.specs.Writable.{IsWritable};
 ghost use Rattle.filter_tree.specs.View.{filter_tree};
-ghost use Rattle.cmd_grammar.specs.Refused.{command_at, member_in, fields_refusal, inserted_refusal, command_refusal, refused};
-ghost use Rattle.cmd_grammar.specs.Asked.{filter_of, updates_of, IsPlaced};
-ghost use Rattle.cmd_grammar.specs.Commands.{command_tree, IsAskable, IsAskableFilter, IsStorable};
-ghost use Rattle.cmd_grammar.specs.Answers.{Refuses, Passes, Answers};
+ghost use Rattle.cmd_grammar.specs.Parts.{page_text};
+ghost use Rattle.cmd_grammar.specs.Refused.{command_at, page_at, fields_refusal, command_refusal, refused};
+ghost use Rattle.cmd_grammar.specs.Asked.{IsPlaced};
+ghost use Rattle.cmd_grammar.specs.Commands.{command_tree, IsAskable, IsAskableFilter};
+ghost use Rattle.cmd_grammar.specs.Answers.{Refuses, Passes, PassesAll, Answers};
 ghost use Rattle.cmd_grammar.specs.Requests.{IsReadAs};
-ghost use Rattle.cmd_grammar.specs.Judged.{named_refusal, HasParts, AreParts, IsJudged, IsInsertion, IsInsertionOf};
+ghost use Rattle.cmd_grammar.specs.Judged.{named_refusal, AreParts, IsSound, IsJudged, IsInsertion, IsInsertionOf};
 
 use crate::checks::check_place;
 use crate::command::Command;
-use crate::documents::check_document;
 use crate::fault::{CommandFault, refuse};
 use crate::fields::check_fields;
-use crate::filters::read_filter;
 use crate::members::{member, take_member};
 use crate::name::{Name, command_named};
+use crate::paging::check_paging;
+use crate::parts::{Parts, read_parts, without_document};
 use crate::row::table_row;
-use crate::updates::read_updates;
-use filter_tree::Filter;
 use json_text::{TextFault, read_value};
 use json_tree::Value;
 use reply_env::{Place, Request, bad_field, no_command, unread};
 use std::alloc::Global;
-use update_ops::Updates;
-
-/// What a command's value spells beside a document.
-#[derive(Drop)]
-struct Parts {
-    filter: Filter,
-    updates: Updates,
-}
 
 // The command and its value, in an object of one member under the path of a collection.
 fn named<'v>(place: &Place, value: &'v Value) -> Option<(Name, &'v Value)>
@@ -69,35 +60,17 @@ fn check_members(alloc: Global, name: Name, command: &Value) -> Result<(), Comma
     }
 }
 
-// The test of the member `document`.
-fn check_inserted(alloc: Global, command: &Value) -> Result<(), CommandFault>
-    ensures { Passes (inserted_refusal (tree command.now)) (λ _. IfSome (member_in (codes "document") (tree command.now)) IsStorable) result }
-{
-    match member(command, "document") {
-        Some(document) => check_document(alloc, document),
-        None => Ok(()),
-    }
-}
-
-// The tests of a command's value; its filter and its update are read by the way.
+// The tests of a command's value; its parts are read by the way.
 fn check_command(alloc: Global, name: Name, command: &Value) -> Result<Parts, CommandFault>
-    ensures answers { Passes (command_refusal (name, tree command.now)) (λ p. AreParts (tree command.now) (filter_tree p.filter) p.updates × HasParts name (tree command.now)) result }
+    ensures answers { PassesAll (command_refusal (name, tree command.now)) (page_text (tree command.now)) (λ p. AreParts (tree command.now) p × IsSound name (tree command.now)) result }
     ensures filter { IsWritable (tree command.now) → IfOk result (λ p. IsAskableFilter (filter_tree p.filter)) }
 {
     match check_members(alloc, name, command) {
         Ok(()) => {}
         Err(fault) => return Err(fault),
     }
-    let filter = match read_filter(alloc, command) {
-        Ok(filter) => filter,
-        Err(fault) => return Err(fault),
-    };
-    let updates = match read_updates(alloc, command) {
-        Ok(updates) => updates,
-        Err(fault) => return Err(fault),
-    };
-    match check_inserted(alloc, command) {
-        Ok(()) => Ok(Parts { filter, updates }),
+    match check_paging(alloc, command) {
+        Ok(()) => read_parts(alloc, command),
         Err(fault) => Err(fault),
     }
 }
@@ -110,7 +83,7 @@ fn judge_named(
     name: Name,
     command: &Value,
 ) -> Result<Parts, CommandFault>
-    ensures answers { Passes (named_refusal keyspace.now place.now (name, tree command.now)) (λ p. AreParts (tree command.now) (filter_tree p.filter) p.updates × HasParts name (tree command.now)) result }
+    ensures answers { PassesAll (named_refusal keyspace.now place.now (name, tree command.now)) (page_text (tree command.now)) (λ p. AreParts (tree command.now) p × IsSound name (tree command.now)) result }
     ensures filter { IsWritable (tree command.now) → IfOk result (λ p. IsAskableFilter (filter_tree p.filter)) }
 {
     match check_place(alloc, keyspace, place) {
@@ -126,7 +99,7 @@ fn judge(
     keyspace: &str,
     value: &Value,
 ) -> Result<(Name, Parts), CommandFault>
-    ensures answers { Passes (refused keyspace.now place.now (tree value.now)) (λ j. IsJudged place.now (tree value.now) j.0 (filter_tree j.1.filter) j.1.updates) result }
+    ensures answers { PassesAll (refused keyspace.now place.now (tree value.now)) (page_at place.now (tree value.now)) (λ j. IsJudged place.now (tree value.now) j.0 j.1) result }
     ensures filter { IsWritable (tree value.now) → IfOk result (λ j. IsAskableFilter (filter_tree j.1.filter)) }
 {
     match named(place, value) {
@@ -181,18 +154,9 @@ pub fn read_command(
     ensures placed { OnOk result (IsPlaced keyspace.now place.now) }
 {
     match judge(alloc, place, keyspace, value) {
-        Ok((name, parts)) => match name {
-            Name::InsertOne => copied_insertion(alloc, value),
-            Name::FindOne => Ok(Command::FindOne {
-                filter: parts.filter,
-            }),
-            Name::CountDocuments => Ok(Command::CountDocuments {
-                filter: parts.filter,
-            }),
-            Name::UpdateOne => Ok(Command::UpdateOne {
-                filter: parts.filter,
-                updates: parts.updates,
-            }),
+        Ok((name, parts)) => match without_document(name, parts) {
+            Some(command) => Ok(command),
+            None => copied_insertion(alloc, value),
         },
         Err(fault) => Err(fault),
     }
@@ -210,18 +174,9 @@ pub fn take_command(
     ensures placed { OnOk result (IsPlaced keyspace.now place.now) }
 {
     match judge(alloc, place, keyspace, &value) {
-        Ok((name, parts)) => match name {
-            Name::InsertOne => Ok(taken_insertion(value)),
-            Name::FindOne => Ok(Command::FindOne {
-                filter: parts.filter,
-            }),
-            Name::CountDocuments => Ok(Command::CountDocuments {
-                filter: parts.filter,
-            }),
-            Name::UpdateOne => Ok(Command::UpdateOne {
-                filter: parts.filter,
-                updates: parts.updates,
-            }),
+        Ok((name, parts)) => match without_document(name, parts) {
+            Some(command) => Ok(command),
+            None => Ok(taken_insertion(value)),
         },
         Err(fault) => Err(fault),
     }

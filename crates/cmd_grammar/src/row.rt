@@ -4,12 +4,18 @@ ghost use Rattle.json_tree.specs.View.{tree};
 ghost use Rattle.cmd_grammar.specs.Rows.{row_of, field_of, row, has_kind, fits};
 
 use crate::name::Name;
+use crate::numbers::whole_in;
 use json_tree::Value;
 
 /// What a member's value has to be.
 #[derive(Clone, Copy)]
 pub(crate) enum Kind {
+    /// An object.
     Object,
+    /// A whole number under 2^31, not below zero.
+    Whole,
+    /// A text, or null.
+    TextOrNull,
 }
 
 /// A member that a command may have.
@@ -45,14 +51,49 @@ const UPDATE: Field = Field {
     required: true,
 };
 
+const SORT: Field = Field {
+    name: "sort",
+    kind: Kind::Object,
+    required: false,
+};
+
+const PROJECTION: Field = Field {
+    name: "projection",
+    kind: Kind::Object,
+    required: false,
+};
+
+const LIMIT: Field = Field {
+    name: "limit",
+    kind: Kind::Whole,
+    required: false,
+};
+
+const SKIP: Field = Field {
+    name: "skip",
+    kind: Kind::Whole,
+    required: false,
+};
+
+const PAGE_STATE: Field = Field {
+    name: "pageState",
+    kind: Kind::TextOrNull,
+    required: false,
+};
+
 const INSERT_ONE: Row = Row {
     members: &[DOCUMENT],
     options: None,
 };
 
 const FIND_ONE: Row = Row {
-    members: &[FILTER],
+    members: &[FILTER, SORT, PROJECTION],
     options: None,
+};
+
+const FIND: Row = Row {
+    members: &[FILTER, SORT, PROJECTION],
+    options: Some(&[LIMIT, SKIP, PAGE_STATE]),
 };
 
 const COUNT_DOCUMENTS: Row = Row {
@@ -61,7 +102,7 @@ const COUNT_DOCUMENTS: Row = Row {
 };
 
 const UPDATE_ONE: Row = Row {
-    members: &[FILTER, UPDATE],
+    members: &[FILTER, UPDATE, SORT],
     options: Some(&[]),
 };
 
@@ -72,6 +113,7 @@ pub(crate) fn table_row(name: Name) -> Row
     match name {
         Name::InsertOne => INSERT_ONE,
         Name::FindOne => FIND_ONE,
+        Name::Find => FIND,
         Name::CountDocuments => COUNT_DOCUMENTS,
         Name::UpdateOne => UPDATE_ONE,
     }
@@ -83,6 +125,8 @@ impl Kind {
     {
         match self {
             Kind::Object => matches!(value, Value::Object(_)),
+            Kind::Whole => whole_in(value).is_some(),
+            Kind::TextOrNull => matches!(value, Value::Text(_) | Value::Null),
         }
     }
 }

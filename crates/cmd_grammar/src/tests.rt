@@ -116,6 +116,7 @@ fn text_of(alloc: Global, read: Result<Command, CommandFault>) -> Result<Vec<u8>
     match read {
         Ok(Command::InsertOne { .. }) => Ok(b"insertOne".to_vec(alloc)?),
         Ok(Command::FindOne { .. }) => Ok(b"findOne".to_vec(alloc)?),
+        Ok(Command::Find { .. }) => Ok(b"find".to_vec(alloc)?),
         Ok(Command::CountDocuments { .. }) => Ok(b"countDocuments".to_vec(alloc)?),
         Ok(Command::UpdateOne { .. }) => Ok(b"updateOne".to_vec(alloc)?),
         Err(CommandFault::Refused { code, message }) => refused_text(alloc, code, message),

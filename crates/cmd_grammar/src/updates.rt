@@ -4,7 +4,7 @@ ghost use Rattle.json_tree.specs.View.{tree};
 ghost use Rattle.update_ops.specs.Faults.{first_fault, updates_in};
 ghost use Rattle.update_ops.specs.declared.fault.UpdateFault.{UpdateFault};
 ghost use Rattle.cmd_grammar.specs.Refused.{update_error as error_of, update_refusal};
-ghost use Rattle.cmd_grammar.specs.Asked.{updates_of};
+ghost use Rattle.cmd_grammar.specs.Parts.{updates_of};
 ghost use Rattle.cmd_grammar.specs.Answers.{Passes};
 
 use crate::fault::{CommandFault, refuse};

@@ -1,15 +1,13 @@
 -- What one call of the store means for a request that is under way.
-use Rattle.std.proofs.Common.{◌≡◌, ℕ, ◌+◌, ◌<◌, ◌≤◌, List, [], ◌∷◌, ◌++◌, map, take, length, Bool, true, false, cond, Option, Some, None, refl, sym, ap, ◌∙◌, subst, arith, append-nil, eq-eqb, inr}
+use Rattle.std.proofs.Common.{◌≡◌, ℕ, List, [], ◌∷◌, ◌++◌, map, take, length, Bool, true, false, cond, Option, Some, None, refl, sym, ap, ◌∙◌, subst, arith, append-nil, eq-eqb, inr}
 use Rattle.std.specs.Prelude.{slice_get, IfSome}
-use Rattle.std.specs.Option.{option_map}
-use Rattle.std.specs.List.{filter, AllByRecursion as Each}
+use Rattle.std.specs.List.{filter}
 use Rattle.std.proofs.Math.Seq.{take-length, take-append_seam}
 use Rattle.outside_io.specs.Causes.{Rose}
 use Rattle.json_tree.specs.Tree.{Tree}
-use Rattle.json_tree.specs.Id.{key_of, id_cmp}
-use Rattle.shred_cols.specs.Row.{Version, id_of}
-use Rattle.shred_cols.specs.Rows.{Rows, ascends, is_after}
-use Rattle.col_keeper.specs.Tables.{Name, IsShort, rows_in}
+use Rattle.shred_cols.specs.Row.{Version}
+use Rattle.shred_cols.specs.Rows.{Rows, ascends}
+use Rattle.col_keeper.specs.Tables.{Name, rows_in}
 use Rattle.col_keeper.specs.Pages.{IsPage}
 use Rattle.filter_tree.specs.Filters.{FilterTree}
 use Rattle.filter_tree.specs.Matches.{matches}
@@ -21,10 +19,9 @@ use Rattle.store_core.specs.Outcomes.{ShowsPage}
 use Rattle.store_core.specs.declared.entry.Entry.{Entry}
 use Rattle.store_core.specs.declared.entry.Entry.TheVariants.{Changed, Failed}
 use Rattle.store_core.specs.declared.entry.Change.{Change}
-use Rattle.cmd_tasks.specs.Rank.{rank_of, IsKeyed}
 use Rattle.cmd_tasks.specs.Trace.{sight, rows_now, found_in, probed_in, probe_of}
 use Rattle.cmd_tasks.specs.Served.{Stops}
-use Rattle.cmd_tasks.specs.Pages.{found_row, last_of, up_of}
+use Rattle.cmd_tasks.specs.Pages.{found_row, up_of}
 use Rattle.cmd_tasks.specs.Looking.{Made, GoesUp, IsLooked, ShowsRows, ShowsNothing, StopsWith, Glances, Sees, StopsSo, Refuses}
 use Rattle.cmd_tasks.specs.declared.trace.Item.{Item}
 use Rattle.cmd_tasks.specs.declared.trace.Item.TheVariants.{Looked, Wrote, Lost, Faulted}

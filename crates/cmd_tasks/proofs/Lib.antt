@@ -6,6 +6,8 @@ mod Ranks
 mod Lasts
 mod Fresh
 mod Glances
+mod Keeping
+mod Searching
 mod Requests
 mod Standing
 mod Running

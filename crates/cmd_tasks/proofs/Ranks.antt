@@ -1,5 +1,5 @@
 -- The rank falls as ids rise.
-use Rattle.std.proofs.Common.{◌≡◌, ℕ, zero, suc, ◌-◌, ◌*◌, ◌+◌, ◌<◌, ◌≤◌, List, [], ◌∷◌, length, ap, arith, ⊎_elim, ◌⊎◌, inl, inr, true, false, cond, refl, sym, ◌∙◌, Less, Equal, Greater, Ordering, Bool, ltb, subst, Option, Some, None, ◌/◌, ◌%◌, ◌^◌, ◌++◌}
+use Rattle.std.proofs.Common.{◌≡◌, ℕ, zero, suc, ◌-◌, ◌*◌, ◌+◌, ◌<◌, ◌≤◌, List, [], ◌∷◌, length, ap, arith, ⊎_elim, ◌⊎◌, inl, inr, true, false, cond, refl, sym, ◌∙◌, Less, Equal, Greater, Bool, ltb, subst, Option, Some, None, ◌/◌, ◌++◌}
 use Rattle.std.specs.Prelude.{◌==◌, ◌&&◌, IsUtf8, IfSome}
 use lib.Utf8.{scalar, scalars, encode, encodes, next, scalar_cases}
 use Rattle.std.specs.Option.{option_map}

@@ -9,6 +9,7 @@ pub mod Pages
 pub mod Rank
 pub mod Wanted
 pub mod Looking
+pub mod Finding
 pub mod Searching
 pub mod Moves
 pub mod Stands

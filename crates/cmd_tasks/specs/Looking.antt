@@ -1,5 +1,5 @@
 -- One look of a listing, told or not: what a page of the store is to a request.
-use Rattle.std.specs.Prelude.{◌≡◌, ◌⊎◌, ℕ, ◌<◌, List, [], ◌++◌, length, map, Bool, Option, None, ⊤, IfSome}
+use Rattle.std.specs.Prelude.{◌≡◌, ◌⊎◌, ℕ, ◌<◌, List, [], ◌++◌, length, map, Bool, true, Option, Some, None, ⊤, IfSome}
 use Rattle.std.specs.List.{filter}
 use Rattle.outside_io.specs.Causes.{Rose}
 use Rattle.json_tree.specs.Tree.{Tree}

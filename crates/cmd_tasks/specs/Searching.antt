@@ -8,7 +8,6 @@ use Rattle.filter_tree.specs.Filters.{FilterTree}
 use Rattle.filter_tree.specs.View.{filter_tree}
 use Rattle.view_sort.specs.Sort.{HasIds}
 use Rattle.reply_env.specs.Messages as errors
-use Rattle.reply_env.specs.declared.reply.Reply.{Reply}
 use Rattle.store_core.specs.State.{State as Base, version}
 use Rattle.store_core.specs.declared.entry.Entry.{Entry}
 use Rattle.cmd_tasks.specs.Rank.{rank_of}

@@ -1,7 +1,11 @@
 //! The top call on streams in memory: a table of calls, each with what it writes.
+mod pages;
 mod rows;
+mod searches;
 
+use self::pages::{OPTIONS, PAGES, STATES};
 use self::rows::{REQUESTS, RETURNS, STREAMS, UPDATES, WORDS};
+use self::searches::{FAULTS, FIRSTS, ORDER, REFUSED, SORTABLE, SORTED, SORTS, UNSORTABLE, VIEWS};
 use crate::top::dapi;
 use keeper_mem::MemKeeper;
 use outside_io::{ListClock, MemSink, MemSource};
@@ -149,6 +153,14 @@ fn first_wrong<'a>(alloc: Global, rows: &'a str) -> Result<&'a str, Fail> {
 }
 
 #[test]
+fn searches_show_what_they_have_to(rt: HostRuntime) -> Result<(), Fail> {
+    for rows in [PAGES, STATES, OPTIONS, SORTS, FIRSTS, VIEWS, FAULTS, ORDER] {
+        assert_eq!(rt; first_wrong(rt.alloc(), rows)?, "");
+    }
+    Ok(())
+}
+
+#[test]
 fn calls_write_what_they_have_to(rt: HostRuntime) -> Result<(), Fail> {
     for rows in [REQUESTS, UPDATES, WORDS, STREAMS, RETURNS] {
         assert_eq!(rt; first_wrong(rt.alloc(), rows)?, "");
@@ -178,6 +190,11 @@ const COUNTS: &str = r#"/v1/ks/c {"countDocuments":{}}
 /v1/ks/c {"findOne":{"filter":{"k":{"$gt":63}}}}
 /v1/ks/c {"findOne":{"filter":{"k":999}}}
 /v1/ks/c {"findOne":{"filter":{"k":{"$gt":999}}}}
+/v1/ks/c {"find":{"filter":{"k":{"$gte":60}},"projection":{"_id":1}}}
+/v1/ks/c {"find":{"filter":{"k":{"$in":[0,63,64,128,999]}},"options":{"limit":7}}}
+/v1/ks/c {"find":{"filter":{"k":{"$gte":999}}}}
+/v1/ks/c {"find":{"filter":{"k":{"$ne":998}},"options":{"pageState":"AQAAAAAAAAAUAoAAAAAAAAA18GYcQ5msAAA="}}}
+/v1/ks/c {"find":{"sort":{"k":-1},"options":{"skip":63,"limit":2}}}
 "#;
 
 const COUNTED: &str = r#"{"status":{"count":1000}}
@@ -187,6 +204,11 @@ const COUNTED: &str = r#"{"status":{"count":1000}}
 {"data":{"document":{"_id":64,"k":64}}}
 {"data":{"document":{"_id":999,"k":999}}}
 {"data":{"document":null}}
+{"data":{"documents":[{"_id":60},{"_id":61},{"_id":62},{"_id":63},{"_id":64},{"_id":65},{"_id":66},{"_id":67},{"_id":68},{"_id":69},{"_id":70},{"_id":71},{"_id":72},{"_id":73},{"_id":74},{"_id":75},{"_id":76},{"_id":77},{"_id":78},{"_id":79}],"nextPageState":"AQAAAAAAAAAUAoAAAAAAAAAESFhhcKfcAAA="}}
+{"data":{"documents":[{"_id":0,"k":0},{"_id":63,"k":63},{"_id":64,"k":64},{"_id":128,"k":128},{"_id":999,"k":999}],"nextPageState":null}}
+{"data":{"documents":[{"_id":999,"k":999}],"nextPageState":null}}
+{"data":{"documents":[{"_id":996,"k":996},{"_id":997,"k":997},{"_id":999,"k":999}],"nextPageState":null}}
+{"data":{"documents":[{"_id":936,"k":936},{"_id":935,"k":935}],"nextPageState":null}}
 "#;
 
 const MORE: &str = r#"/v1/ks/c {"countDocuments":{}}
@@ -242,6 +264,23 @@ fn many_counted(alloc: Global) -> Result<String, Fail> {
     Ok(text)
 }
 
+// One row: ten thousand documents are sorted, and one more aren't.
+fn many_sorted(alloc: Global) -> Result<String, Fail> {
+    let mut text = String::from_str(alloc, "run --collection=c | piece=4096\n")?;
+    add_lists(
+        &mut text,
+        [(0, 10_000, SORTABLE), (10_000, 10_001, UNSORTABLE)],
+        false,
+    )?;
+    text.push_str("\n=> 0\n")?;
+    add_lists(
+        &mut text,
+        [(0, 10_000, SORTED), (10_000, 10_001, REFUSED)],
+        true,
+    )?;
+    Ok(text)
+}
+
 // A row that names so many collections, and its answer.
 fn add_collections(text: &mut String, count: u32, answer: &str) -> Result<(), Fail> {
     text.push_str("run")?;
@@ -281,6 +320,7 @@ fn bounds_are_kept(rt: HostRuntime) -> Result<(), Fail> {
     let alloc = rt.alloc();
     for text in [
         many_counted(alloc)?,
+        many_sorted(alloc)?,
         many_collections(alloc)?,
         long_body(alloc)?,
     ] {

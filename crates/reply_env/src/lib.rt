@@ -24,9 +24,7 @@ pub use update_errors::{
     Loss, bad_update_operand, id_unchangeable, lost_writes, no_update_operator,
     number_out_of_range, update_conflict, wrong_update_target,
 };
-pub use view_errors::{
-    bad_page_state, bad_projection, bad_sort, command_limit, too_many_to_sort,
-};
+pub use view_errors::{bad_page_state, bad_projection, bad_sort, command_limit, too_many_to_sort};
 
 #[cfg(test)]
 mod tests;

@@ -210,18 +210,24 @@ fn print_state(state: &Option<Text>, out: &mut Vec<u8>) -> Result<(), AllocError
     }
 }
 
-fn print_listed(
-    views: &[Value],
-    state: &Option<Text>,
-    out: &mut Vec<u8>,
-) -> Result<(), AllocError>
-    ensures { OnOk result (out.new.items ≡ out.old.items ++ (codes "{\"data\":" ++ listed_text views.now state.now ++ codes "}")) }
+fn print_page(views: &[Value], state: &Option<Text>, out: &mut Vec<u8>) -> Result<(), AllocError>
+    ensures { OnOk result (out.new.items ≡ out.old.items ++ listed_text views.now state.now) }
 {
-    out.extend_from_slice(b"{\"data\":{\"documents\":[")?;
+    out.extend_from_slice(b"{\"documents\":[")?;
     print_views(views, out)?;
     out.extend_from_slice(b"],\"nextPageState\":")?;
     print_state(state, out)?;
-    out.extend_from_slice(b"}}")
+    out.push(b'}')?;
+    Ok(())
+}
+
+fn print_listed(views: &[Value], state: &Option<Text>, out: &mut Vec<u8>) -> Result<(), AllocError>
+    ensures { OnOk result (out.new.items ≡ out.old.items ++ (codes "{\"data\":" ++ listed_text views.now state.now ++ codes "}")) }
+{
+    out.extend_from_slice(b"{\"data\":")?;
+    print_page(views, state, out)?;
+    out.push(b'}')?;
+    Ok(())
 }
 
 fn print_more(more: bool, out: &mut Vec<u8>) -> Result<(), AllocError>

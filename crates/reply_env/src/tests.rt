@@ -49,7 +49,7 @@ fn refused(alloc: Global, so_far: Option<SoFar>) -> Result<Reply, Fail> {
     })
 }
 
-const TEXTS: [&str; 11] = [
+const TEXTS: [&str; 17] = [
     r#"{"status":{"insertedIds":["a",2]}}"#,
     r#"{"data":{"document":{"_id":"a","n":1.5}}}"#,
     r#"{"data":{"document":null}}"#,
@@ -60,8 +60,31 @@ const TEXTS: [&str; 11] = [
     r#"{"status":{"matchedCount":3,"modifiedCount":2},"errors":[{"message":"Command field invalid: \u0001\"\\/é","errorCode":"COMMAND_FIELD_INVALID"},{"message":"No command matched","errorCode":"NO_COMMAND_MATCHED"}]}"#,
     r#"{"status":{"deletedCount":18446744073709551615},"errors":[{"message":"Command field invalid: \u0001\"\\/é","errorCode":"COMMAND_FIELD_INVALID"},{"message":"No command matched","errorCode":"NO_COMMAND_MATCHED"}]}"#,
     r#"{"status":{"matchedCount":1,"modifiedCount":0}}"#,
+    r#"{"data":{"documents":[],"nextPageState":null}}"#,
+    r#"{"data":{"documents":[],"nextPageState":"AQAAAAAAAAAoAW9yZGVyLTEwMDE="}}"#,
+    r#"{"data":{"documents":[{"_id":"a","n":1.5}],"nextPageState":null}}"#,
+    r#"{"data":{"documents":[{"_id":"a","n":1.5}],"nextPageState":"\u0001\"\\/é"}}"#,
+    r#"{"data":{"documents":[{"_id":"a","n":1.5},{},{"_id":"a","n":1.5}],"nextPageState":null}}"#,
+    r#"{"data":{"documents":[{"_id":"a","n":1.5},{},{"_id":"a","n":1.5}],"nextPageState":""}}"#,
     r#"{"errors":[{"message":"Out of memory after 18446744073709551615 accepted writes","errorCode":"OUT_OF_MEMORY"}]}"#,
 ];
+
+// A page of so many documents, the second of which shows nothing.
+fn listed(alloc: Global, documents: usize, state: Option<&str>) -> Result<Reply, Fail> {
+    let mut views = Vec::new(alloc);
+    for place in 0..documents {
+        if place == 1 {
+            views.push(Value::Object(Members::new(alloc)))?;
+        } else {
+            views.push(document(alloc)?)?;
+        }
+    }
+    let state = match state {
+        Some(state) => Some(Text::of_str(alloc, state)?),
+        None => None,
+    };
+    Ok(Reply::Listed { views, state })
+}
 
 // The replies of these texts.
 fn reply_at(alloc: Global, place: usize) -> Result<Reply, Fail> {
@@ -93,6 +116,12 @@ fn reply_at(alloc: Global, place: usize) -> Result<Reply, Fail> {
             matched: 1,
             modified: 0,
         }),
+        10 => listed(alloc, 0, None),
+        11 => listed(alloc, 0, Some("AQAAAAAAAAAoAW9yZGVyLTEwMDE=")),
+        12 => listed(alloc, 1, None),
+        13 => listed(alloc, 1, Some("\u{1}\"\\/é")),
+        14 => listed(alloc, 3, None),
+        15 => listed(alloc, 3, Some("")),
         _ => Ok(Reply::NoMemory { accepted: u64::MAX }),
     }
 }
@@ -113,7 +142,7 @@ fn replies_have_their_texts(rt: HostRuntime) -> Result<(), Fail> {
     Ok(())
 }
 
-const MESSAGES: [(Code, &str); 27] = [
+const MESSAGES: [(Code, &str); 33] = [
     (Code::InvalidJson, "Body is not JSON at byte 13"),
     (Code::InvalidJson, "Body is not UTF-8 at byte 0"),
     (Code::InvalidJson, "Body is nested too deep at byte 32"),
@@ -179,6 +208,18 @@ const MESSAGES: [(Code, &str); 27] = [
         Code::ConcurrencyFailure,
         "Lost to other writers: 1>2, 2>18446744073709551615, 7>gone, 9>10",
     ),
+    (
+        Code::UnsupportedProjectionParam,
+        "Projection is invalid at a.b",
+    ),
+    (Code::InvalidSortClause, "Sort is invalid at a.b"),
+    (Code::InvalidSortClause, "Sort is invalid at "),
+    (Code::InvalidPageState, "Page state is invalid"),
+    (
+        Code::CommandLimitViolation,
+        "Command limit options.limit is 100, found 18446744073709551615",
+    ),
+    (Code::DatasetTooBig, "More than 10000 documents to sort"),
     (Code::StoreFault, "Store fault: 0 then 1"),
 ];
 
@@ -229,6 +270,12 @@ fn error_at(alloc: Global, place: usize) -> Result<ErrorItem, Fail> {
         23 => wrong_update_target(alloc, "s"),
         24 => number_out_of_range(alloc, "a.b"),
         25 => lost_writes(alloc, &LOSSES),
+        26 => bad_projection(alloc, "a.b"),
+        27 => bad_sort(alloc, "a.b"),
+        28 => bad_sort(alloc, ""),
+        29 => bad_page_state(alloc),
+        30 => command_limit(alloc, "options.limit", 100, u64::MAX),
+        31 => too_many_to_sort(alloc),
         _ => store_fault(alloc, 0, 1),
     };
     Ok(made?)

@@ -25,12 +25,7 @@ pub fn bad_projection(alloc: Global, path: &str) -> Result<ErrorItem, ReplyFault
 pub fn bad_sort(alloc: Global, path: &str) -> Result<ErrorItem, ReplyFault>
     ensures { IfOk result (λ e. e ≡ errors.bad_sort path.now) }
 {
-    ending(
-        alloc,
-        Code::InvalidSortClause,
-        "Sort is invalid at ",
-        path,
-    )
+    ending(alloc, Code::InvalidSortClause, "Sort is invalid at ", path)
 }
 
 /// A text is no page state.

@@ -1,16 +1,18 @@
--- What was found is sorted in one way.
-use Rattle.std.proofs.Common.{◌≡◌, ◌≢◌, ℕ, Bool, true, false, List, [], ◌∷◌, is_eq, Ordering, Less, Equal, Greater, Option, Some, None, sym, refl, ◌∙◌, MatchOption, unwrap_or}
+-- What was found is sorted in one way, all at once or page by page.
+use Rattle.std.proofs.Common.{◌≡◌, ◌≢◌, ℕ, Bool, true, false, List, [], ◌∷◌, ◌++◌, take, is_eq, Ordering, Less, Equal, Greater, Option, Some, None, sym, refl, ◌∙◌, MatchOption, unwrap_or}
 use Rattle.std.specs.List.{AllByRecursion}
 use Rattle.std.specs.Ordering.{ordering_then, on}
 use Rattle.std.specs.Cmp.{IsTotalOrder, then_total, on_total, back_total, nat_cmp_total}
-use Rattle.sqlite_keyed.proofs.SortLemmas.{HasNoTies, sorted_is-sort_by}
+use Rattle.std.proofs.lemmas.List.Sorted.{IsPermutation-sym}
+use Rattle.sqlite_keyed.proofs.SortLemmas.{HasNoTies, IsPermutation-sort_by, sorted_is-sort_by}
 use Rattle.json_tree.specs.Tree.{Tree, null}
 use Rattle.json_tree.specs.Doc.{IsDocument, id_in}
 use Rattle.json_tree.specs.Id.{IsId, id_cmp}
 use Rattle.shred_cols.specs.SortKey.{key_cmp}
 use Rattle.shred_cols.specs.Row.{Version, id_of}
-use Rattle.view_sort.specs.Sort.{directed, key_at, keys_cmp, found_cmp, IsSortOf, HasIds}
+use Rattle.view_sort.specs.Sort.{directed, key_at, keys_cmp, found_cmp, IsSortOf, HasIds, sorted}
 use Rattle.view_sort.specs.Rank.{key_total, id_total}
+use Rattle.view_sort.proofs.PagesSorted.{sort_is_sorted, first_is_first}
 
 directed_total : {X : Type 0} (up : Bool) (cmp : X → X → Ordering) → IsTotalOrder cmp → IsTotalOrder (directed up cmp)
 directed_total true cmp total = total
@@ -53,3 +55,10 @@ pub sorts_same : Apart → (s : List (List ℕ × Bool)) (xs ys zs : List Versio
 sorts_same apart s xs ys zs ids one two =
     let none = no_ties apart s xs ids in
     sorted_is-sort_by (found_cmp s) (found_total s) xs ys none one.same one.ascending ∙ sym (sorted_is-sort_by (found_cmp s) (found_total s) xs zs none two.same two.ascending)
+
+pub sorts_itself : (s : List (List ℕ × Bool)) (xs : List Version) → IsSortOf s xs (sorted s xs)
+sorts_itself s xs =
+    record { same = IsPermutation-sym (sorted s xs) xs (IsPermutation-sort_by (found_cmp s) (found_total s) xs); ascending = sort_is_sorted (found_cmp s) (found_total s) xs }
+
+pub first_of_pages : Apart → (s : List (List ℕ × Bool)) (keep : ℕ) (xs ys : List Version) → HasIds (xs ++ ys) → take keep (sorted s (take keep (sorted s xs) ++ ys)) ≡ take keep (sorted s (xs ++ ys))
+first_of_pages apart s keep xs ys ids = first_is_first (found_cmp s) (found_total s) keep xs ys (no_ties apart s (xs ++ ys) ids)

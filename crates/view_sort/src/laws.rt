@@ -21,9 +21,7 @@ pub fn sorts_are_one()
 /// What was found can be sorted.
 pub fn sorted_is_a_sort()
     ensures { (sort : List (List ℕ × Bool)) (xs : List Version) → IsSortOf sort xs (sorted sort xs) }
-{
-    ids_are_ordered();
-}
+{}
 
 /// The first so many of all pages are the first of those of the earlier pages and of all that the last page found.
 pub fn first_of_pages_are_first()

@@ -7,6 +7,7 @@ ghost use Rattle.view_sort.specs.Rank.{sided_key, all_keys, rank_of, IsSortedFou
 ghost use Rattle.view_sort.specs.declared.fault.ViewFault.TheVariants.{NoMemory, BadSort};
 
 use crate::fault::ViewFault;
+use crate::laws::{sorted_is_a_sort, sorts_are_one};
 use crate::rank::{Ranked, Sided};
 use doc_paths::{Path, PathFault};
 use json_tree::{Members, Text, Value};
@@ -138,6 +139,8 @@ impl Sort {
         ensures err { IfErr result (λ e. e ≡ NoMemory) }
     {
         let ranked = rank_all(alloc, &self.keys, found)?;
+        sorts_are_one();
+        sorted_is_a_sort();
         first_found(alloc, ranked, keep)
     }
 }

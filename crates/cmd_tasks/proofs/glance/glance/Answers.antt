@@ -1,4 +1,4 @@
-use Rattle.std.proofs.Common.{rules, ◌≡◌, subst, sym, refl, ◌∙◌, Option, List}
+use Rattle.std.proofs.Common.{rules, ◌≡◌, subst, sym, Option, List}
 use Rattle.std.specs.Option.{option_copied}
 use Rattle.json_tree.specs.Tree.{Tree}
 use Rattle.shred_cols.specs.Row.{Version}

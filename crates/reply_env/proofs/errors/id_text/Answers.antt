@@ -1,4 +1,3 @@
-use Rattle.std.proofs.Common.{subst, sym}
 use Rattle.std.specs.Str.{IsUtf8}
 use Rattle.reply_env.proofs.Ids.{id_is_utf8}
 use Rattle.reply_env.proofs.errors.id_text.Goals as goal
