@@ -1,20 +1,20 @@
 -- Searches that have made no look, and what searches found: the first of it, by cases on the sort.
 use Rattle.std.proofs.Common.{◌≡◌, ℕ, zero, suc, ◌+◌, ◌<◌, ◌≤◌, List, [], ◌∷◌, ◌++◌, map, take, length, Bool, true, false, not, ◌&&◌, Option, Some, None, refl, sym, ap, ◌∙◌, subst, arith, ⊎_elim}
-use Rattle.std.specs.Prelude.{IfSome, is_none, nat_lt, if◌then◌else◌}
+use Rattle.std.specs.Prelude.{IfSome, IsSome, MatchOption, is_none, nat_lt, if◌then◌else◌}
 use Rattle.std.specs.Option.{option_map}
 use Rattle.std.specs.List.{AllByRecursion as Each}
 use Rattle.std.specs.Ordering.{is_gt}
 use Rattle.std.specs.declared.cmp.Ordering.{Ordering}
 use Rattle.std.proofs.lemmas.Bool.{ltb-false}
 use Rattle.json_tree.specs.Tree.{Tree}
-use Rattle.shred_cols.specs.Row.{Version}
+use Rattle.shred_cols.specs.Row.{Version, id_of}
 use Rattle.shred_cols.specs.Rows.{Rows, first}
 use Rattle.sqlite_keyed.specs.Lists.{insert_sorted, sort_by}
 use Rattle.col_keeper.specs.Tables.{Name}
 use Rattle.filter_tree.specs.Filters.{FilterTree}
 use Rattle.view_sort.specs.Sort.{SortKeys}
 use Rattle.store_core.specs.State.{State as Base}
-use Rattle.cmd_tasks.specs.Trace.{Sight, Found, end_of, shown, FullPage, GoesOn, IsListed, rows_now}
+use Rattle.cmd_tasks.specs.Trace.{Sight, Found, up_to, end_of, shown, FullPage, GoesOn, IsListed, rows_now}
 use Rattle.cmd_tasks.specs.Searches.{bound, is_too_many, in_order, is_whole, first_of}
 use Rattle.cmd_tasks.specs.Pages.{found_row}
 use Rattle.cmd_tasks.specs.Searching.{IsFresh, IsSearching}
@@ -23,9 +23,20 @@ use Rattle.cmd_tasks.specs.declared.work.Progress.{Progress}
 use Rattle.cmd_tasks.specs.declared.trace.Item.{Item}
 use Rattle.cmd_tasks.specs.declared.trace.Item.TheVariants.{Looked, Wrote, Lost, Faulted}
 
+-- ---- options
+
+pub match_some : {A : Type 0} (o : Option A) (a : A) (P : Type 0) (Q : A → Type 0) → o ≡ Some a → Q a → MatchOption o P Q
+match_some o a P Q is q = subst (λ z. MatchOption z P Q) (sym is) q
+
+pub match_none : {A : Type 0} (o : Option A) (P : Type 0) (Q : A → Type 0) → o ≡ None → P → MatchOption o P Q
+match_none o P Q is p = subst (λ z. MatchOption z P Q) (sym is) p
+
+pub some_is : {A : Type 0} (o : Option A) (a : A) → o ≡ Some a → IsSome o
+some_is o a e = subst (λ z. IsSome z) (sym e) refl
+
 -- ---- a search that has made no look
 
-nothing_taken : (keep : ℕ) → take keep ([] {A = Found}) ≡ []
+nothing_taken : (keep : ℕ) → ◌≡◌ {A = List Found} (take keep []) []
 nothing_taken zero = refl
 nothing_taken (suc n) = refl
 
@@ -45,7 +56,7 @@ fresh_searching base coll from search p h = record {
   versions = [];
   are = refl;
   apart = tt;
-  below = none_below p.last _;
+  below = none_below p.last (λ u v. up_to (Some u) (id_of v.doc) ≡ true);
   seen = tt;
 }
 

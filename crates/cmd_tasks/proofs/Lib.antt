@@ -9,9 +9,12 @@ mod Glances
 mod Keeping
 mod Searching
 mod Requests
+mod Selecting
 mod Standing
 mod Running
 mod Opening
 pub mod Attempts
+pub mod Lookback
 pub mod Rounds
+pub mod Tries
 pub mod Contests

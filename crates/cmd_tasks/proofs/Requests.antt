@@ -1,6 +1,6 @@
 -- How each command goes on, or is answered.
 use Rattle.std.proofs.Common.{◌≡◌, ◌≢◌, ℕ, ℤ, ◌+◌, ◌<◌, ◌≤◌, List, [], ◌∷◌, ◌++◌, map, take, length, true, false, ◌-◌, ◌^◌, Option, Some, None, refl, sym, ap, ◌∙◌, subst, arith, inl, inr, length-append, Vec, Global, leb, ◌⊎◌, ⊎_elim}
-use Rattle.std.specs.Prelude.{nat_le, if◌then◌else◌, IfSome, slice_get}
+use Rattle.std.specs.Prelude.{⊤, nat_le, if◌then◌else◌, IfSome, slice_get}
 use Rattle.std.specs.Option.{option_map}
 use Rattle.std.proofs.lemmas.List.{length-map}
 use Rattle.std.proofs.lemmas.Bool.{leb-true}
@@ -24,6 +24,8 @@ use Rattle.store_core.specs.Journal.{replay}
 use Rattle.store_core.specs.declared.entry.Entry.{Entry}
 use Rattle.store_core.specs.declared.entry.Entry.TheVariants.{Changed, Failed}
 use Rattle.store_core.specs.declared.entry.Change.TheVariants.{Insert}
+use Rattle.store_core.specs.declared.outcome.WriteOutcome.{WriteOutcome}
+use Rattle.store_core.specs.declared.outcome.WriteOutcome.TheVariants as w
 use Rattle.view_sort.specs.Sort.{SortKeys}
 use Rattle.cmd_grammar.specs.Commands.{CommandTree, Shows, Paging, insert_one, find_one, find, count_documents, update_one}
 use Rattle.cmd_tasks.specs.Trace.{Sight, sight, now, shown, shown_by, IsLook, Looks}
@@ -87,8 +89,12 @@ found_one (Some tx) n = (tx, refl)
 abbrev pub IsNoWrite : Name → Base → ErrorItem → Type 0
 IsNoWrite coll s error = ((s.next ≡ 2 ^ 63 - 1) × (error ≡ errors.versions_spent)) ⊎ ((s.next ≢ 2 ^ 63 - 1) × IsGone coll s × (error ≡ errors.no_collection coll))
 
+-- a write that wasn't made for want of the collection had a number left
+pub gone_not_spent : (at n : ℕ) → ◌≡◌ {A = WriteOutcome} (w.NoCollection at) (w.VersionsSpent n) → ⊥
+gone_not_spent at n e = cc
+
 pub marked_so : (coll : Name) (k : ℕ) (base : Base) (W : Type 0) (s : Sight) (error : ErrorItem) → W → IsNoWrite coll (now base coll s) error → IsMarked base coll k W s error
-marked_so coll k base W s error writes cause = ⊎_elim (λ z. inl (writes, z.0, z.1)) (λ z. inr (λ w. z.0, z.1, z.2)) cause
+marked_so coll k base W s error writes cause = ⊎_elim (λ z. inl (writes, z.0, z.1)) (λ z. inr ((λ w. z.0), z.1, z.2)) cause
 
 module _ (base : Base) (coll : Name) (k : ℕ) (moment : ℤ) where
   looks_wrote : (f : FilterTree) (r : Rows) (from : Option Tree) (i : Item) → Looks base coll f r from i → one_if_wrote i ≡ 0
@@ -97,11 +103,11 @@ module _ (base : Base) (coll : Name) (k : ℕ) (moment : ℤ) where
   looks_wrote f r from (Lost at read found) h = absurd h
   looks_wrote f r from (Faulted at before count) h = absurd h
 
-  find_one_accepts : (f : FilterTree) (sort : SortKeys) (shows : Shows) (s : List Sight) → IsPartOf base coll k moment (find_one f sort shows) s → accepted s ≡ 0
+  pub find_one_accepts : (f : FilterTree) (sort : SortKeys) (shows : Shows) (s : List Sight) → IsPartOf base coll k moment (find_one f sort shows) s → accepted s ≡ 0
   find_one_accepts f sort shows [] h = refl
   find_one_accepts f sort shows (s ∷ earlier) h = let a = find_one_accepts f sort shows earlier h.0 in let b = looks_wrote f _ _ s.item h.2.1 in omega arith
 
-  find_accepts : (f : FilterTree) (sort : SortKeys) (shows : Shows) (p : Paging) (s : List Sight) → IsPartOf base coll k moment (find f sort shows p) s → accepted s ≡ 0
+  pub find_accepts : (f : FilterTree) (sort : SortKeys) (shows : Shows) (p : Paging) (s : List Sight) → IsPartOf base coll k moment (find f sort shows p) s → accepted s ≡ 0
   find_accepts f sort shows p [] h = refl
   find_accepts f sort shows p (s ∷ earlier) h = let a = find_accepts f sort shows p earlier h.0 in let b = looks_wrote f _ _ s.item h.2.1 in omega arith
 
