@@ -5,6 +5,7 @@ mod Listing
 mod Ranks
 mod Lasts
 mod Fresh
+mod PageStates
 mod Glances
 mod Keeping
 mod Searching

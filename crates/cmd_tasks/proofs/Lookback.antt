@@ -35,7 +35,10 @@ pub record LooksBack (H : List Entry) (trace : List Item) (look : Sight) : Type 
 same_sight : (a b : Sight) → ◌≡◌ {A = Option Sight} (Some a) (Some b) → a ≡ b
 same_sight a b e = cc
 
-not_there : (place : ℕ) (look : Sight) → ◌≡◌ {A = Option Sight} (slice_get {A = Sight} [] place) (Some look) → ⊥
+abbrev no_sights : List Sight
+no_sights = []
+
+not_there : (place : ℕ) (look : Sight) → slice_get no_sights place ≡ Some look → ⊥
 not_there place look e = cc
 
 -- a further look

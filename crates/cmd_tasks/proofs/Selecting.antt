@@ -10,7 +10,6 @@ use Rattle.filter_tree.specs.Filters.{FilterTree}
 use Rattle.filter_tree.specs.View.{filter_tree}
 use Rattle.view_sort.specs.Sort.{SortKeys}
 use Rattle.view_sort.specs.View.{view}
-use Rattle.reply_env.specs.Messages as errors
 use Rattle.reply_env.specs.declared.reply.Reply.{Reply}
 use Rattle.reply_env.specs.declared.reply.Reply.TheVariants.{NoMemory}
 use Rattle.store_core.specs.State.{State as Base}
@@ -19,15 +18,18 @@ use Rattle.cmd_grammar.specs.Commands.{CommandTree, Shows, Paging, find_one, fin
 use Rattle.cmd_tasks.specs.Trace.{Sight, Found, sight, shown, GoesOn, IsListed}
 use Rattle.cmd_tasks.specs.Searches.{bound, in_order}
 use Rattle.cmd_tasks.specs.Part.{from_of, keep_of, most_of, part_of, state_after}
-use Rattle.cmd_tasks.specs.Served.{IsPartOf, IsFound, Answers, Serves, TellsFound, TellsListed, accepted}
+use Rattle.cmd_tasks.specs.Served.{IsPartOf, Answers, Serves, TellsFound, TellsListed, accepted}
 use Rattle.cmd_tasks.specs.Pages.{found_row}
-use Rattle.cmd_tasks.specs.Looking.{StopsSo, Refuses}
+use Rattle.cmd_tasks.specs.Looking.{Made}
 use Rattle.cmd_tasks.specs.Searching.{IsSearching, IsUnended, Seeks}
-use Rattle.cmd_tasks.specs.Moves.{IsBegun, IsUnderWay, Finds, Lists, TellsPage, paging}
+use Rattle.cmd_tasks.specs.Moves.{IsUnderWay, Leads, Steps, EndsSo, Finds, Lists, TellsPage, paging}
 use Rattle.cmd_tasks.specs.declared.work.Search.{Search}
 use Rattle.cmd_tasks.specs.declared.work.Progress.{Progress}
 use Rattle.cmd_tasks.specs.declared.work.Part.{Part}
+use Rattle.cmd_tasks.specs.declared.work.State.{State}
 use Rattle.cmd_tasks.specs.declared.work.State.TheVariants.{Selecting, Listing}
+use Rattle.cmd_tasks.specs.declared.work.Moved.{Moved}
+use Rattle.cmd_tasks.specs.declared.work.Moved.TheVariants as m
 use Rattle.cmd_tasks.specs.declared.work.Searched.{Searched}
 use Rattle.cmd_tasks.specs.declared.work.Searched.TheVariants as r
 use Rattle.cmd_tasks.specs.declared.trace.Item.{Item}
@@ -38,6 +40,12 @@ use Rattle.cmd_tasks.proofs.Fresh.{first_kept}
 -- what a search tells wherever it stands
 abbrev pub SeeksOn : Base → Name → Search → Progress → ℕ → List Entry → Searched → Type 0
 SeeksOn base coll search p k H' o = (from : Option Tree) (looks : List Sight) → IsUnended base coll from search looks → IsSearching base coll from search p looks → Seeks base coll from search k H' looks o
+
+-- the end of a step, with its item
+pub ended_steps : (k low high : ℕ) (H H' : List Entry) (w : State) (item : Item) (P : Reply → Type 0) (o : Moved) → Made k low high H H' item → EndsSo item P o → Steps k low high w H H' o
+ended_steps k low high H H' w item P (m.Goes i s) made is = absurd is
+ended_steps k low high H H' w item P (m.Ends i reply) made is = subst (Made k low high H H') (sym is.0) made
+ended_steps k low high H H' w item P m.NoMemory made is = absurd is
 
 -- ---- the rows that were kept, and the documents that were found
 
@@ -84,7 +92,7 @@ module _ (base : Base) (coll : Name) (k : ℕ) (moment : ℤ) where
       pub select_more : (item : Item) (p' : Progress) → Seeks base coll None search k H' earlier (r.More item p') → IsUnderWay base coll k moment (Selecting search p' shows) (sight H' item ∷ earlier)
       select_more item p' h = (((way.0.0, way.0.1, h.0), subst (λ (n : ℕ). GoesOn base coll f (bound search.sort n) (sight H' item ∷ earlier)) one h.2), h.1)
 
-      pub select_whole : (item : Item) (p' : Progress) (reply : Reply) → Seeks base coll None search k H' earlier (r.Whole item p') → Finds (option_map (λ (v : Version). view shows v.doc) (first p'.kept.items)) reply
+      select_whole : (item : Item) (p' : Progress) (reply : Reply) → Seeks base coll None search k H' earlier (r.Whole item p') → Finds (option_map (λ (v : Version). view shows v.doc) (first p'.kept.items)) reply
           → Serves base coll k moment (find_one f search.sort shows) (sight H' item ∷ earlier) reply
       select_whole item p' reply h finds =
           let sights : List Sight = sight H' item ∷ earlier in
@@ -95,6 +103,12 @@ module _ (base : Base) (coll : Name) (k : ℕ) (moment : ℤ) where
           let ended = subst (λ (n : ℕ). IsEndedBy n sights) one h.2 in
           answered (find_one f search.sort shows) sights reply _ part (find_one_accepts base coll k moment f search.sort shows sights part)
           (λ t. (ended, inr (h.3, subst (λ (d : Option Tree). TellsFound d reply) (sym is) t))) finds
+
+      pub select_ended : (item : Item) (p' : Progress) (o : Moved) → Seeks base coll None search k H' earlier (r.Whole item p') → EndsSo item (Finds (option_map (λ (v : Version). view shows v.doc) (first p'.kept.items))) o
+          → Leads base coll k moment H' (Selecting search p shows) earlier o
+      select_ended item p' (m.Goes i w) h is = absurd is
+      select_ended item p' (m.Ends i reply) h is = subst (λ (z : Item). Serves base coll k moment (find_one f search.sort shows) (sight H' z ∷ earlier) reply) (sym is.0) (select_whole item p' reply h is.1)
+      select_ended item p' m.NoMemory h is = absurd is
 
       pub select_stopped : (item : Item) (reply : Reply) → Seeks base coll None search k H' earlier (r.Stopped item reply) → Serves base coll k moment (find_one f search.sort shows) (sight H' item ∷ earlier) reply
       select_stopped item reply h = ⊎_elim
@@ -119,7 +133,7 @@ module _ (base : Base) (coll : Name) (k : ℕ) (moment : ℤ) where
       pub list_more : (item : Item) (p' : Progress) → Seeks base coll from search k H' earlier (r.More item p') → IsUnderWay base coll k moment (Listing search p' part) (sight H' item ∷ earlier)
       list_more item p' h = (((way.0.0, way.0.1, h.0), subst (λ (n : ℕ). GoesOn base coll f (bound search.sort n) (sight H' item ∷ earlier)) keeps h.2), h.1)
 
-      pub list_whole : (item : Item) (p' : Progress) (reply : Reply) → Seeks base coll from search k H' earlier (r.Whole item p') → Lists search.sort part (drop part.skip p'.kept.items) reply
+      list_whole : (item : Item) (p' : Progress) (reply : Reply) → Seeks base coll from search k H' earlier (r.Whole item p') → Lists search.sort part (drop part.skip p'.kept.items) reply
           → Serves base coll k moment asked_for (sight H' item ∷ earlier) reply
       list_whole item p' reply h lists =
           let sights : List Sight = sight H' item ∷ earlier in
@@ -128,6 +142,12 @@ module _ (base : Base) (coll : Name) (k : ℕ) (moment : ℤ) where
           let rows = page_is (paging part) search.keep p'.kept.items xs keeps h.1.kept in
           answered asked_for sights reply _ taken (find_accepts base coll k moment f search.sort part.projection (paging part) sights taken)
           (λ t. (subst (λ (n : ℕ). IsEndedBy n sights) keeps h.2, inr (h.3, page_told search.sort part (drop part.skip p'.kept.items) xs reply rows t))) lists
+
+      pub list_ended : (item : Item) (p' : Progress) (o : Moved) → Seeks base coll from search k H' earlier (r.Whole item p') → EndsSo item (Lists search.sort part (drop part.skip p'.kept.items)) o
+          → Leads base coll k moment H' (Listing search p part) earlier o
+      list_ended item p' (m.Goes i w) h is = absurd is
+      list_ended item p' (m.Ends i reply) h is = subst (λ (z : Item). Serves base coll k moment asked_for (sight H' z ∷ earlier) reply) (sym is.0) (list_whole item p' reply h is.1)
+      list_ended item p' m.NoMemory h is = absurd is
 
       pub list_stopped : (item : Item) (reply : Reply) → Seeks base coll from search k H' earlier (r.Stopped item reply) → Serves base coll k moment asked_for (sight H' item ∷ earlier) reply
       list_stopped item reply h = ⊎_elim

@@ -20,7 +20,7 @@ pub returns-in-Whole-clause-leads : goal.returns-in-Whole-clause-leads
 returns-in-Whole-clause-leads g c = λ base told_base moment trace placed way.
     let earlier = sights c.args.store.now.journal trace in
     let seeks = choose_seeks base c.args.coll.now c.args.by moment c.args.update c.requires.updating.one c.search.new.store.journal earlier c.args.progress way (sr.Whole c.in-Whole.item c.in-Whole.progress) (c.in-Whole.ensures.seeks base told_base) in
-    choose_whole base c.args.coll.now c.args.by moment c.args.update c.requires.updating.one c.search.new.store.journal earlier c.args.progress way c.in-Whole.item seeks.0 c.in-Whole.progress seeks.1 seeks.2 seeks.3 c.as_slice.result.now c.chosen.result (sym c.as_slice.ensures) c.chosen.ensures
+    choose_whole base c.args.coll.now c.args.by moment c.args.update c.requires.updating.one c.search.new.store.journal earlier c.args.progress way c.in-Whole.item seeks.0 c.in-Whole.progress seeks.1 seeks.2 seeks.3 c.as_slice.result.now c.chosen.result (sym c.as_slice.ensures.value) c.chosen.ensures
 
 pub returns-in-Stopped-clause-leads : goal.returns-in-Stopped-clause-leads
 returns-in-Stopped-clause-leads g c = λ base told_base moment trace placed way.
