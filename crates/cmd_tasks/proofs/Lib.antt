@@ -11,6 +11,7 @@ mod Keeping
 mod Searching
 mod Requests
 mod Selecting
+mod Beginnings
 mod Standing
 mod Running
 mod Opening
