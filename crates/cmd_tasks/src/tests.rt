@@ -355,11 +355,7 @@ fn contested(
 }
 
 // The same by two sessions that are opened for it.
-fn raced(
-    alloc: Global,
-    store: &mut Store<MemKeeper>,
-    race: Race,
-) -> Result<Option<Served>, Fail> {
+fn raced(alloc: Global, store: &mut Store<MemKeeper>, race: Race) -> Result<Option<Served>, Fail> {
     let Ok(other) = store.open_session(alloc) else {
         return Ok(None);
     };
@@ -382,11 +378,7 @@ fn items_of(alloc: Global, trace: &Trace) -> Result<String, Fail> {
 }
 
 // Whether a race ends so.
-fn ends_so(
-    alloc: Global,
-    store: &mut Store<MemKeeper>,
-    race: Race,
-) -> Result<bool, Fail> {
+fn ends_so(alloc: Global, store: &mut Store<MemKeeper>, race: Race) -> Result<bool, Fail> {
     let Some(served) = raced(alloc, store, race)? else {
         return Ok(false);
     };
@@ -456,7 +448,9 @@ fn told(alloc: Global, store: &mut Store<MemKeeper>, body: &str) -> Result<Strin
 fn fill(alloc: Global, store: &mut Store<MemKeeper>, count: u64) -> Result<(), Fail> {
     for i in 100..100 + count {
         let n = if i < 105 { 105 - i } else { i - 105 };
-        let body = format!(in alloc; "{{\"insertOne\":{{\"document\":{{\"_id\":\"m{i}\",\"n\":{n}}}}}}}")?;
+        let body = format!(in alloc;
+            "{{\"insertOne\":{{\"document\":{{\"_id\":\"m{i}\",\"n\":{n}}}}}}}"
+        )?;
         told(alloc, store, body.as_str())?;
     }
     Ok(())
@@ -470,7 +464,9 @@ fn page_behind(alloc: Global, served: &Served) -> Result<String, Fail> {
             state: Some(state),
         } => {
             let state = state.as_str();
-            Ok(format!(in alloc; "{{\"find\":{{\"projection\":{{\"_id\":1}},\"options\":{{\"limit\":22,\"pageState\":\"{state}\"}}}}}}")?)
+            Ok(format!(in alloc;
+                "{{\"find\":{{\"projection\":{{\"_id\":1}},\"options\":{{\"limit\":22,\"pageState\":\"{state}\"}}}}}}"
+            )?)
         }
         _ => Ok(String::new(alloc)),
     }
@@ -483,24 +479,26 @@ fn two_pages(alloc: Global, store: &mut Store<MemKeeper>) -> Result<String, Fail
         return Ok(String::new(alloc));
     };
     told(alloc, store, r#"{"insertOne":{"document":{"_id":"a"}}}"#)?;
-    told(alloc, store, r#"{"insertOne":{"document":{"_id":"m1195"}}}"#)?;
+    told(
+        alloc,
+        store,
+        r#"{"insertOne":{"document":{"_id":"m1195"}}}"#,
+    )?;
     let body = page_behind(alloc, &served)?;
     told(alloc, store, body.as_str())
 }
 
 // A sort whose first document stands on an earlier page of the keeper than the last one.
 fn sorted_update(alloc: Global, store: &mut Store<MemKeeper>) -> Result<String, Fail> {
-    let body = r#"{"updateOne":{"filter":{"n":{"$gte":0}},"sort":{"n":1},"update":{"$set":{"least":true}}}}"#;
+    let body =
+        r#"{"updateOne":{"filter":{"n":{"$gte":0}},"sort":{"n":1},"update":{"$set":{"least":true}}}}"#;
     let mut both = told(alloc, store, body)?;
     let found = told(alloc, store, r#"{"findOne":{"filter":{"least":true}}}"#)?;
     both.push_str(found.as_str())?;
     Ok(both)
 }
 
-fn pages_and_sort(
-    alloc: Global,
-    store: &mut Store<MemKeeper>,
-) -> Result<(String, String), Fail> {
+fn pages_and_sort(alloc: Global, store: &mut Store<MemKeeper>) -> Result<(String, String), Fail> {
     fill(alloc, store, 70)?;
     let pages = two_pages(alloc, store)?;
     let sorted = sorted_update(alloc, store)?;
@@ -516,13 +514,11 @@ fn pages_and_sorts_over_many_documents(rt: HostRuntime) -> Result<(), Fail> {
     let told = pages_and_sort(alloc, &mut store);
     let _keeper = store.into_keeper();
     let (pages, sorted) = told?;
-    assert_eq!(
-        rt;
+    assert_eq!(rt;
         pages.as_str(),
         r#"looked {"data":{"documents":[{"_id":"m1195"},{"_id":"m120"}],"nextPageState":null}}"#
     );
-    assert_eq!(
-        rt;
+    assert_eq!(rt;
         sorted.as_str(),
         r#"looked looked wrote {"status":{"matchedCount":1,"modifiedCount":1}}looked {"data":{"document":{"_id":"m105","n":0,"least":true}}}"#
     );
