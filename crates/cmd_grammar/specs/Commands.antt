@@ -1,6 +1,5 @@
 -- Commands: a tree that holds no pointer.
-use Rattle.std.specs.Prelude.{◌≡◌, ◌<◌, ◌≤◌, ◌^◌, ℕ, true, Bool, List, Option, Some, None, IfSome}
-use Rattle.std.specs.Option.{option_map}
+use Rattle.std.specs.Prelude.{◌≡◌, ◌<◌, ◌≤◌, ◌^◌, ℕ, true, List, Option, None, IfSome}
 use Rattle.json_tree.specs.Tree.{Tree}
 use Rattle.json_tree.specs.Doc.{IsDocument}
 use Rattle.json_tree.specs.View.{tree}
@@ -9,14 +8,11 @@ use Rattle.filter_tree.specs.Filters.{FilterTree}
 use Rattle.filter_tree.specs.View.{filter_tree}
 use Rattle.filter_tree.specs.Ready.{is_ready, FilterIsWritable}
 use Rattle.update_ops.specs.Clauses.{Clause}
+use Rattle.view_sort.specs.Sort.{SortKeys}
 use Rattle.view_sort.specs.declared.show.Show.{Show}
 use Rattle.view_sort.specs.declared.page.PageState.{PageState}
 use Rattle.cmd_grammar.specs.declared.command.Command.{Command}
 use Rattle.cmd_grammar.specs.declared.command.Command.TheVariants.{InsertOne, FindOne, Find, CountDocuments, UpdateOne}
-
--- paths by which documents are sorted, each with whether it ascends; none where there is no sort
-abbrev pub SortKeys : Type 0
-SortKeys = List (List ℕ × Bool)
 
 -- paths of a projection, each with what is shown of it; none where the whole document is shown
 abbrev pub Shows : Type 0

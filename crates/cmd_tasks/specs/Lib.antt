@@ -1,10 +1,14 @@
 pub mod Trace
 pub mod Attempts
+pub mod Searches
+pub mod Part
 pub mod Served
 pub mod Session
 pub mod Placed
 pub mod Pages
 pub mod Rank
 pub mod Wanted
+pub mod Looking
+pub mod Searching
 pub mod Moves
 pub mod Stands

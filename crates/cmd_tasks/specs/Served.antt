@@ -11,7 +11,7 @@ use Rattle.reply_env.specs.Reply.{IsRefusal}
 use Rattle.reply_env.specs.declared.reply.ErrorItem.{ErrorItem}
 use Rattle.reply_env.specs.declared.update_errors.Loss.{Loss}
 use Rattle.reply_env.specs.declared.reply.Reply.{Reply}
-use Rattle.reply_env.specs.declared.reply.Reply.TheVariants.{Inserted, Found as FoundOne, Counted, Updated, Refused, NoMemory}
+use Rattle.reply_env.specs.declared.reply.Reply.TheVariants.{Inserted, Found as FoundOne, Listed, Counted, Updated, Refused, NoMemory}
 use Rattle.store_core.specs.State.{State, IsGone, number_at}
 use Rattle.store_core.specs.declared.entry.Entry.{Entry}
 use Rattle.store_core.specs.declared.entry.Entry.TheVariants.{Failed}
@@ -20,9 +20,13 @@ use Rattle.update_ops.specs.Clauses.{Clause}
 use Rattle.update_ops.specs.Apply.{apply}
 use Rattle.update_ops.specs.declared.fault.UpdateFault.{UpdateFault}
 use Rattle.filter_tree.specs.Filters.{FilterTree}
+use Rattle.view_sort.specs.Sort.{SortKeys}
+use Rattle.view_sort.specs.View.{view}
 use Rattle.cmd_grammar.specs.Refused.{update_error}
-use Rattle.cmd_grammar.specs.Commands.{CommandTree, insert_one, find_one, count_documents, update_one}
+use Rattle.cmd_grammar.specs.Commands.{CommandTree, insert_one, find_one, find, count_documents, update_one}
 use Rattle.cmd_tasks.specs.Trace.{Sight, sight, Found, now, shown, GoesOn, IsLook, next_from, IsListed}
+use Rattle.cmd_tasks.specs.Searches.{bound, is_too_many, in_order, first_of}
+use Rattle.cmd_tasks.specs.Part.{from_of, keep_of, part_of, state_after}
 use Rattle.cmd_tasks.specs.Attempts.{WroteChange, IsAttempt}
 use Rattle.cmd_tasks.specs.declared.trace.Item.{Item}
 use Rattle.cmd_tasks.specs.declared.trace.Item.TheVariants.{Looked, Wrote, Lost, Faulted}
@@ -46,6 +50,7 @@ counted n = Counted (min n 1000) (nat_lt 1000 n)
 abbrev pub TellsInserted : Tree → Reply → Type 0
 TellsInserted id (Inserted ids) = ids.items ≡ id ∷ []
 TellsInserted id (FoundOne view) = ⊥
+TellsInserted id (Listed views state) = ⊥
 TellsInserted id (Counted count more) = ⊥
 TellsInserted id (Updated matched modified) = ⊥
 TellsInserted id (Refused errors kept) = ⊥
@@ -55,10 +60,21 @@ TellsInserted id (NoMemory n) = ⊥
 abbrev pub TellsFound : Option Tree → Reply → Type 0
 TellsFound d (Inserted ids) = ⊥
 TellsFound d (FoundOne view) = option_map tree view ≡ d
+TellsFound d (Listed views state) = ⊥
 TellsFound d (Counted count more) = ⊥
 TellsFound d (Updated matched modified) = ⊥
 TellsFound d (Refused errors kept) = ⊥
 TellsFound d (NoMemory n) = ⊥
+
+-- the reply shows these documents, and this page state or none
+abbrev pub TellsListed : List Tree → Option (List ℕ) → Reply → Type 0
+TellsListed ds next (Inserted ids) = ⊥
+TellsListed ds next (FoundOne view) = ⊥
+TellsListed ds next (Listed views state) = (map tree views.items ≡ ds) × (state ≡ next)
+TellsListed ds next (Counted count more) = ⊥
+TellsListed ds next (Updated matched modified) = ⊥
+TellsListed ds next (Refused errors kept) = ⊥
+TellsListed ds next (NoMemory n) = ⊥
 
 -- ---- an update: rounds, of which each has looks and then an attempt
 
@@ -103,31 +119,43 @@ module _ (base : State) (coll : Name) (k : ℕ) where
     pub item : s.item ≡ Lost (length s.past) 0 (Some tx)
     pub there : number_at (now base coll s) coll (id_of d) ≡ Some tx
 
-  -- the document that the present round has chosen
-  abbrev pub chosen : FilterTree → List Sight → Option Found
-  chosen f sights = first (shown base coll f (round sights))
+  -- the document that the present round has chosen: the first of what matches, in the order of the sort
+  abbrev pub chosen : FilterTree → SortKeys → List Sight → Option Found
+  chosen f sort sights = first_of sort (round sights) (shown base coll f (round sights))
+
+  -- a search for the first `keep` has come to its end: what it found, in the order of the sort, is told, or more match than are sorted
+  abbrev pub IsFound : FilterTree → SortKeys → ℕ → List Sight → (List Found → Type 0) → Reply → Type 0
+  IsFound f sort keep looks Told reply =
+      IsListed base coll f (bound sort keep) looks
+      × (((is_too_many sort (shown base coll f looks) ≡ true) × IsRefusal errors.too_many_to_sort reply)
+      ⊎ ((is_too_many sort (shown base coll f looks) ≡ false) × Told (in_order sort (shown base coll f looks))))
 
   -- a write of a document comes next
   abbrev pub IsToWrite : CommandTree → List Sight → Type 0
   IsToWrite (insert_one d) sights = ⊤
-  IsToWrite (find_one f) sights = ⊥
+  IsToWrite (find_one f sort shows) sights = ⊥
+  IsToWrite (find f sort shows p) sights = ⊥
   IsToWrite (count_documents f) sights = ⊥
-  IsToWrite (update_one f u) sights = IsSome (chosen f sights)
+  IsToWrite (update_one f u sort) sights = IsSome (chosen f sort sights)
 
   -- the interval of a look at a point where there is nothing to look at or to write
   abbrev pub Marks : CommandTree → List Sight → Option Tree → Option Tree → Type 0
   Marks (insert_one d) sights after up = (after ≡ Some (id_of d)) × (up ≡ Some (id_of d))
-  Marks (find_one f) sights after up = (after ≡ next_from None sights) × (up ≡ None)
+  Marks (find_one f sort shows) sights after up = (after ≡ next_from None sights) × (up ≡ None)
+  Marks (find f sort shows p) sights after up = (after ≡ next_from (from_of p) sights) × (up ≡ None)
   Marks (count_documents f) sights after up = (after ≡ next_from None sights) × (up ≡ None)
-  Marks (update_one f u) sights after up =
-      MatchOption (chosen f sights) ((after ≡ next_from None (round sights)) × (up ≡ None)) (λ x. (after ≡ Some x.id) × (up ≡ Some x.id))
+  Marks (update_one f u sort) sights after up =
+      MatchOption (chosen f sort sights) ((after ≡ next_from None (round sights)) × (up ≡ None)) (λ x. (after ≡ Some x.id) × (up ≡ Some x.id))
 
-  -- the request stops at this sight, with this error: no collection, no version number left for a write, or a failed call
+  -- in the place of a write, no version number is left; or else the collection doesn't live
+  abbrev pub IsMarked : Type 0 → Sight → ErrorItem → Type 0
+  IsMarked to_write s error =
+      (to_write × ((now base coll s).next ≡ 2 ^ 63 - 1) × (error ≡ errors.versions_spent))
+      ⊎ ((to_write → (now base coll s).next ≢ 2 ^ 63 - 1) × IsGone coll (now base coll s) × (error ≡ errors.no_collection coll))
+
+  -- the request stops at this sight, with this error: at a mark, or at a failed call
   abbrev pub Stops : (Option Tree → Option Tree → Type 0) → Type 0 → Item → Sight → ErrorItem → Type 0
-  Stops marks to_write (Looked at after up_to shown) s error =
-      marks after up_to × (shown.items ≡ [])
-      × ((IsGone coll (now base coll s) × (error ≡ errors.no_collection coll))
-      ⊎ (to_write × ((now base coll s).next ≡ 2 ^ 63 - 1) × (error ≡ errors.versions_spent)))
+  Stops marks to_write (Looked at after up_to shown) s error = marks after up_to × (shown.items ≡ []) × IsMarked to_write s error
   Stops marks to_write (Wrote at) s error = ⊥
   Stops marks to_write (Lost at read found) s error = ⊥
   Stops marks to_write (Faulted at before count) s error =
@@ -137,18 +165,20 @@ module _ (base : State) (coll : Name) (k : ℕ) where
     -- The request is not answered yet by the sights so far
     abbrev pub IsOpen : CommandTree → List Sight → Type 0
     IsOpen (insert_one d) sights = sights ≡ []
-    IsOpen (find_one f) sights = GoesOn base coll f 1 sights
+    IsOpen (find_one f sort shows) sights = GoesOn base coll f (bound sort 1) sights
+    IsOpen (find f sort shows p) sights = GoesOn base coll f (bound sort (keep_of p)) sights
     IsOpen (count_documents f) sights = GoesOn base coll f 1001 sights
-    IsOpen (update_one f u) sights =
+    IsOpen (update_one f u sort) sights =
         (accepted sights ≡ 0) × (length (losses sights) < 4)
-        × MatchOption (chosen f sights) (GoesOn base coll f 1 (round sights)) (λ x. (new : Tree) × MakesAnother u moment x.doc new)
+        × MatchOption (chosen f sort sights) (GoesOn base coll f (bound sort 1) (round sights)) (λ x. (new : Tree) × MakesAnother u moment x.doc new)
 
     -- what comes next
     abbrev pub Next : CommandTree → List Sight → Sight → Type 0
     Next (insert_one d) sights s = IsInserted d s ⊎ ((tx : ℕ) × IsTaken d tx s)
-    Next (find_one f) sights s = IsLook base coll f (next_from None sights) s
+    Next (find_one f sort shows) sights s = IsLook base coll f (next_from None sights) s
+    Next (find f sort shows p) sights s = IsLook base coll f (next_from (from_of p) sights) s
     Next (count_documents f) sights s = IsLook base coll f (next_from None sights) s
-    Next (update_one f u) sights s = MatchOption (chosen f sights) (IsLook base coll f (next_from None (round sights)) s)
+    Next (update_one f u sort) sights s = MatchOption (chosen f sort sights) (IsLook base coll f (next_from None (round sights)) s)
         (λ x. (new : Tree) × MakesAnother u moment x.doc new × IsAttempt base coll k f (Update u moment new) (round sights) x s)
 
     -- the sights so far are those of the command
@@ -162,15 +192,17 @@ module _ (base : State) (coll : Name) (k : ℕ) where
     Answers (insert_one d) (s ∷ earlier) reply =
         (IsInserted d s × TellsInserted (id_of d) reply)
         ⊎ ((tx : ℕ) × IsTaken d tx s × IsRefusal (errors.already_exists (id_of d) tx) reply)
-    Answers (find_one f) sights reply =
-        IsListed base coll f 1 sights × TellsFound (option_map (λ x. x.doc) (first (shown base coll f sights))) reply
+    Answers (find_one f sort shows) sights reply =
+        IsFound f sort 1 sights (λ xs. TellsFound (option_map (λ x. view shows x.doc) (first xs)) reply) reply
+    Answers (find f sort shows p) sights reply =
+        IsFound f sort (keep_of p) sights (λ xs. TellsListed (map (λ x. view shows x.doc) (part_of p xs)) (state_after sort p (part_of p xs)) reply) reply
     Answers (count_documents f) sights reply =
         IsListed base coll f 1001 sights × (reply ≡ counted (length (shown base coll f sights)))
-    Answers (update_one f u) sights reply =
+    Answers (update_one f u sort) sights reply =
         ((accepted sights ≡ 1) × (reply ≡ Updated 1 1))
         ⊎ ((length (losses sights) ≡ 4) × IsRefusal (errors.lost_writes (reverse (losses sights))) reply)
-        ⊎ ((accepted sights ≡ 0) × (length (losses sights) < 4) × IsListed base coll f 1 (round sights)
-        × MatchOption (chosen f sights) (reply ≡ Updated 0 0) (λ x. TellsUnwritten (apply u x.doc moment false) x.doc reply))
+        ⊎ ((accepted sights ≡ 0) × (length (losses sights) < 4)
+        × IsFound f sort 1 (round sights) (λ xs. MatchOption (first xs) (reply ≡ Updated 0 0) (λ x. TellsUnwritten (apply u x.doc moment false) x.doc reply)) reply)
 
     abbrev pub IsStopped : CommandTree → List Sight → ErrorItem → Type 0
     IsStopped c [] error = ⊥

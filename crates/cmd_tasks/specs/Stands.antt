@@ -9,12 +9,13 @@ use Rattle.cmd_tasks.specs.Served.{sights}
 use Rattle.store_core.specs.Counts.{AllBy}
 use Rattle.cmd_tasks.specs.Session.{Exchange, asks_for, Records, AreCounted}
 use Rattle.cmd_tasks.specs.Placed.{IsPlaced}
-use Rattle.cmd_tasks.specs.Moves.{Risen, asked, IsReady, IsUnderWay}
+use Rattle.cmd_tasks.specs.Looking.{Risen}
+use Rattle.cmd_tasks.specs.Moves.{asked, IsReady, IsUnderWay}
 use Rattle.cmd_tasks.specs.declared.trace.Item.{Item}
 use Rattle.cmd_tasks.specs.declared.task.Task.{Task}
 use Rattle.cmd_tasks.specs.declared.task.Served.{Served}
 use Rattle.cmd_tasks.specs.declared.work.State.{State}
-use Rattle.cmd_tasks.specs.declared.work.State.TheVariants.{Inserting, Selecting, Counting, Choosing, Changing, Done}
+use Rattle.cmd_tasks.specs.declared.work.State.TheVariants.{Inserting, Selecting, Listing, Counting, Choosing, Changing, Done}
 
 -- the task isn't done, and stands on a history, which begins at this state where that is told
 pub record StandsOn (start : Option Base) (H : List Entry) (task : Task) : Type 0 where
@@ -37,9 +38,10 @@ Adds k low high H H' trace trace' = ((trace' ≡ trace) × (H' ≡ H)) ⊎ ((i :
 -- the task is done, with a reply of which this holds
 abbrev pub IfDone : State → (Reply → Type 0) → Type 0
 IfDone (Inserting d) P = ⊥
-IfDone (Selecting w last) P = ⊥
+IfDone (Selecting search progress projection) P = ⊥
+IfDone (Listing search progress part) P = ⊥
 IfDone (Counting w last n) P = ⊥
-IfDone (Choosing u last) P = ⊥
+IfDone (Choosing u progress) P = ⊥
 IfDone (Changing u read d) P = ⊥
 IfDone (Done reply) P = P reply
 

@@ -16,7 +16,7 @@ ghost use Rattle.store_core.specs.Growth.{Grows};
 ghost use Rattle.cmd_tasks.specs.Pages.{up_of, pair_of};
 ghost use Rattle.cmd_tasks.specs.Rank.{IsKeyed};
 ghost use Rattle.cmd_tasks.specs.Wanted.{IsWanted};
-ghost use Rattle.cmd_tasks.specs.Moves.{ShowsRows, ShowsNothing, StopsWith, Glances, Sees, GoesUp, Refuses};
+ghost use Rattle.cmd_tasks.specs.Looking.{ShowsRows, ShowsNothing, StopsWith, Glances, Sees, GoesUp, Refuses};
 ghost use Rattle.cmd_tasks.specs.declared.trace.Item.TheVariants.{Faulted};
 
 use crate::trace::Item;

@@ -4,6 +4,7 @@
 mod glance;
 mod laws;
 mod run;
+mod search;
 mod steps;
 mod task;
 #[cfg(test)]

@@ -13,7 +13,9 @@ use json_tree::{Doc, DocId, Value};
 use reply_env::{Loss, Reply};
 use shred_cols::Row;
 use std::alloc::Global;
+use std::snapshot::Snapshot;
 use update_ops::Updates;
+use view_sort::{PageState, Projection, Sort};
 
 /// A filter, with its plan if memory was there for it.
 #[derive(Drop)]
@@ -53,11 +55,37 @@ pub(crate) fn is_match(wanted: &Filter, plan: &Plan, row: &Row) -> bool
     }
 }
 
-/// An update that is asked for: what is wanted, what is done to the first match, the moment of the request, and the
-/// attempts that were lost so far.
+/// What is searched for: the first `keep` of the documents that match, in the order of a sort.
+#[derive(Drop)]
+pub(crate) struct Search {
+    pub(crate) wanted: Wanted,
+    pub(crate) sort: Sort,
+    pub(crate) keep: usize,
+}
+
+/// How far a search has come: where the next look begins, the first `keep` of what was found, and how many matched.
+#[derive(Drop)]
+pub(crate) struct Progress {
+    pub(crate) last: Option<DocId>,
+    pub(crate) kept: Vec<Row>,
+    pub(crate) shown: usize,
+}
+
+/// What a page shows of what is found. `page` is where it began, and takes no memory.
+#[derive(Drop)]
+pub(crate) struct Part {
+    pub(crate) projection: Projection,
+    pub(crate) limit: u64,
+    pub(crate) skip: u64,
+    pub(crate) given: u64,
+    pub(crate) page: Snapshot<Option<PageState>>,
+}
+
+/// An update that is asked for: what is searched for, what is done to the first match, the moment of the request,
+/// and the attempts that were lost so far.
 #[derive(Drop)]
 pub(crate) struct Updating {
-    pub(crate) wanted: Wanted,
+    pub(crate) search: Search,
     pub(crate) updates: Updates,
     pub(crate) moment: i64,
     pub(crate) lost: Vec<Loss>,
@@ -70,8 +98,14 @@ pub(crate) enum State {
         document: Value,
     },
     Selecting {
-        wanted: Wanted,
-        last: Option<DocId>,
+        search: Search,
+        progress: Progress,
+        projection: Projection,
+    },
+    Listing {
+        search: Search,
+        progress: Progress,
+        part: Part,
     },
     Counting {
         wanted: Wanted,
@@ -80,7 +114,7 @@ pub(crate) enum State {
     },
     Choosing {
         update: Updating,
-        last: Option<DocId>,
+        progress: Progress,
     },
     Changing {
         update: Updating,
@@ -112,5 +146,15 @@ pub(crate) enum Glance {
         item: Item,
         reply: Reply,
     },
+    NoMemory,
+}
+
+/// One step of a search: it goes on, or as many as are wanted were found or nothing is left to look at, or it stops
+/// with an error.
+#[derive(Drop)]
+pub(crate) enum Searched {
+    More { item: Item, progress: Progress },
+    Whole { item: Item, progress: Progress },
+    Stopped { item: Item, reply: Reply },
     NoMemory,
 }

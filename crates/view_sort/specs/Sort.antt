@@ -57,6 +57,10 @@ sort_in t = []
 
 -- ---- the order
 
+-- paths, each with whether it ascends; none where there is no sort
+abbrev pub SortKeys : Type 0
+SortKeys = List (List ℕ × Bool)
+
 abbrev pub directed : {X : Type 0} → Bool → (X → X → Ordering) → X → X → Ordering
 directed true cmp = cmp
 directed false cmp = flip_args cmp
@@ -86,7 +90,7 @@ pub record IsFirstOf (sort : List (List ℕ × Bool)) (keep : ℕ) (xs ys : List
   pub first : ys ≡ take keep sorted
 
 -- what was found, sorted
-abbrev pub sorted : List (List ℕ × Bool) → List Version → List Version
+abbrev pub sorted : SortKeys → List Version → List Version
 sorted sort xs = sort_by (found_cmp sort) xs
 
 -- what was found has ids, and no id twice
