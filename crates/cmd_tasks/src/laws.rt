@@ -9,12 +9,16 @@ ghost use Rattle.store_core.specs.Journal.{IsJournal};
 ghost use Rattle.store_core.specs.Counts.{AllBy, opened_in};
 ghost use Rattle.store_core.specs.declared.entry.Entry.{Entry as Journaled};
 ghost use Rattle.store_core.specs.declared.entry.Entry.TheVariants.{Opened};
-ghost use Rattle.cmd_grammar.specs.Commands.{CommandTree, command_tree};
+ghost use Rattle.filter_tree.specs.Filters.{FilterTree};
+ghost use Rattle.cmd_grammar.specs.Commands.{CommandTree, Shows, command_tree};
 ghost use Rattle.cmd_tasks.specs.Served.{IsServed};
 ghost use Rattle.cmd_tasks.specs.Session.{Exchange, IsSession, IsAnswered, AreSessions, AreWithin, NoWork, Records};
+ghost use Rattle.cmd_tasks.specs.Joined.{Page, HasKeys, ArePages, ShowEachOnce};
 ghost use Rattle.cmd_tasks.specs.Stands.{StandsOn};
 ghost use Rattle.cmd_tasks.specs.declared.task.Task.{Task as Tasked};
 ghost use Rattle.cmd_tasks.specs.declared.trace.Item.{Item as Seen};
+
+use view_sort::page_states_are_one;
 
 /// The entries of other sessions leave a task where it stands.
 pub fn others_may_append()
@@ -67,3 +71,12 @@ pub fn one_session_steps()
 pub fn a_session_opens()
     ensures { (base : Base) (history : List Journaled) (k : ℕ) → base.sessions ≡ 0 → k ≡ opened_in history → IsJournal base (history ++ Opened k ∷ []) → IsSession base (history ++ Opened k ∷ []) k [] }
 {}
+
+/// A client that joins the pages of a find without a sort, each asked for with the state of the page before it, sees each
+/// document that matched throughout exactly once, in order of id, whatever others write meanwhile.
+pub fn pages_show_each_once()
+    ensures { (base : Base) (history : List Journaled) (coll : Name) (f : FilterTree) (shows : Shows) (pages : List Page)
+        → HasKeys base history → ArePages base history coll f shows pages → ShowEachOnce base history coll f shows pages }
+{
+    page_states_are_one();
+}
