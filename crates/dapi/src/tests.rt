@@ -152,10 +152,25 @@ fn first_wrong<'a>(alloc: Global, rows: &'a str) -> Result<&'a str, Fail> {
     Ok("")
 }
 
+// The first row that isn't answered so where its input comes in pieces of this size.
+fn first_wrong_in<'a>(alloc: Global, rows: &'a str, piece: u64) -> Result<&'a str, Fail> {
+    for text in rows.split("---\n") {
+        if text.is_empty() {
+            continue;
+        }
+        let row = row_of(text);
+        let keeper = keeper_of(alloc, row.settings)?;
+        if !is_answered(alloc, row, piece, keeper)?.0 {
+            return Ok(text);
+        }
+    }
+    Ok("")
+}
+
 #[test]
 fn searches_show_what_they_have_to(rt: HostRuntime) -> Result<(), Fail> {
     for rows in [PAGES, STATES, OPTIONS, SORTS, FIRSTS, VIEWS, FAULTS, ORDER] {
-        assert_eq!(rt; first_wrong(rt.alloc(), rows)?, "");
+        assert_eq!(rt; first_wrong_in(rt.alloc(), rows, 1000)?, "");
     }
     Ok(())
 }
