@@ -20,3 +20,6 @@ pub mod Lookback
 pub mod Rounds
 pub mod Tries
 pub mod Contests
+mod Ascent
+mod Covering
+mod Client

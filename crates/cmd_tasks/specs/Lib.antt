@@ -13,3 +13,4 @@ pub mod Finding
 pub mod Searching
 pub mod Moves
 pub mod Stands
+pub mod Joined

@@ -17,7 +17,8 @@ mod work;
 
 pub use laws::{
     a_request_begins, a_request_ends, a_session_opens, a_step_is_made, a_task_may_be_cut_off,
-    one_session_steps, others_may_append, others_may_write, what_was_served_stays,
+    one_session_steps, others_may_append, others_may_write, pages_show_each_once,
+    what_was_served_stays,
 };
 pub use run::serve;
 pub use task::{Next, Served, Task};
