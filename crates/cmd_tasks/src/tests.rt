@@ -8,7 +8,7 @@ ghost use Rattle.cmd_grammar.specs.Commands.{command_tree, IsAskable};
 
 use crate::run::serve;
 use crate::task::{Next, Served, Task};
-use crate::trace::{Item, Trace};
+use crate::trace::Item;
 use cmd_grammar::{Command, read_request};
 use doc_paths::CollName;
 use json_tree::Text;
@@ -65,10 +65,19 @@ fn tells(item: &Item) -> (&'static str, u64) {
     }
 }
 
-fn text_of(alloc: Global, reply: &Reply) -> Result<Vec<u8>, Fail> {
-    let mut out = Vec::new(alloc);
-    print_reply(alloc, reply, &mut out)?;
-    Ok(out)
+// What a request saw and did, item by item with their points, and then its reply.
+fn tale(alloc: Global, served: &Served) -> Result<String, Fail> {
+    let mut tale = String::new(alloc);
+    for place in 0..served.trace.len() {
+        if let Some(item) = served.trace.item(place) {
+            let (word, at) = tells(item);
+            tale.push_str(&format!(in alloc; "{word} {at} ")?)?;
+        }
+    }
+    let mut reply = Vec::new(alloc);
+    print_reply(alloc, &served.reply, &mut reply)?;
+    tale.push_str(str::from_utf8(reply.as_slice()).unwrap_or("?"))?;
+    Ok(tale)
 }
 
 // A request is served whose session was opened.
@@ -87,21 +96,192 @@ fn served(
     serve(alloc, store, Task::new(alloc, session, coll, 0, command))
 }
 
-// One document is updated, under a session that was opened.
-fn rewritten(alloc: Global, store: &mut Store<MemKeeper>, session: u64) -> Result<bool, Fail>
+// A body is served, if it spells a command.
+fn run(
+    alloc: Global,
+    store: &mut Store<MemKeeper>,
+    session: u64,
+    name: &str,
+    body: &str,
+) -> Result<Option<Served>, Fail>
     requires known { session < opened_in store.old.journal }
     ensures grown { (more : List Journaled) × (store.new.journal ≡ store.old.journal ++ more) × AllBy session more }
     ensures base { SameBase store.old store.new }
 {
-    let coll = CollName::read(alloc, "c")?;
-    let Some(command) = command_of(alloc, INCREMENT)? else {
-        return Ok(false);
-    };
-    let _served = served(alloc, store, session, coll, command);
-    Ok(true)
+    match command_of(alloc, body)? {
+        Some(command) => {
+            let coll = CollName::read(alloc, name)?;
+            Ok(Some(served(alloc, store, session, coll, command)))
+        }
+        None => Ok(None),
+    }
 }
 
-// The same, where it is to be done now.
+// The same under a new session.
+fn asked(
+    alloc: Global,
+    store: &mut Store<MemKeeper>,
+    name: &str,
+    body: &str,
+) -> Result<Option<Served>, Fail> {
+    match store.open_session(alloc) {
+        Ok(session) => run(alloc, store, session, name, body),
+        Err(_) => Ok(None),
+    }
+}
+
+// The tale of it.
+fn told(
+    alloc: Global,
+    store: &mut Store<MemKeeper>,
+    name: &str,
+    body: &str,
+) -> Result<String, Fail> {
+    match asked(alloc, store, name, body)? {
+        Some(served) => tale(alloc, &served),
+        None => Ok(String::new(alloc)),
+    }
+}
+
+// A collection, a body, and the tale.
+type Row = (&'static str, &'static str, &'static str);
+
+// The place of the first row that isn't answered so, one behind the other on one store.
+fn first_wrong(
+    alloc: Global,
+    store: &mut Store<MemKeeper>,
+    rows: &[Row],
+) -> Result<Option<usize>, Fail> {
+    for i in 0..rows.len() {
+        if told(alloc, store, rows[i].0, rows[i].1)?.as_str() != rows[i].2 {
+            return Ok(Some(i));
+        }
+    }
+    Ok(None)
+}
+
+// The fifth call of the keeper fails: the first lists, the second makes the collection.
+const ROWS: [Row; 14] = [
+    (
+        "c",
+        r#"{"insertOne":{"document":{"_id":"a","n":1}}}"#,
+        r#"wrote 1 {"status":{"insertedIds":["a"]}}"#,
+    ),
+    (
+        "c",
+        r#"{"insertOne":{"document":{"_id":"a"}}}"#,
+        r#"lost 3 {"errors":[{"message":"Document \"a\" already exists at version 1","errorCode":"DOCUMENT_ALREADY_EXISTS"}]}"#,
+    ),
+    (
+        "c",
+        r#"{"findOne":{}}"#,
+        r#"faulted 4 {"errors":[{"message":"Store fault: 0 then 1","errorCode":"STORE_FAULT"}]}"#,
+    ),
+    (
+        "c",
+        r#"{"findOne":{"filter":{"n":1}}}"#,
+        r#"looked 6 {"data":{"document":{"_id":"a","n":1}}}"#,
+    ),
+    (
+        "c",
+        r#"{"countDocuments":{"filter":{"n":2}}}"#,
+        r#"looked 7 {"status":{"count":0}}"#,
+    ),
+    (
+        "zz",
+        r#"{"insertOne":{"document":{"_id":"a"}}}"#,
+        r#"looked 8 {"errors":[{"message":"Collection zz does not exist","errorCode":"COLLECTION_NOT_EXIST"}]}"#,
+    ),
+    (
+        "c",
+        r#"{"updateOne":{"filter":{"n":2},"update":{"$set":{"n":3}}}}"#,
+        r#"looked 9 {"status":{"matchedCount":0,"modifiedCount":0}}"#,
+    ),
+    (
+        "c",
+        r#"{"updateOne":{"filter":{"n":1},"update":{"$set":{"n":1}}}}"#,
+        r#"looked 10 {"status":{"matchedCount":1,"modifiedCount":0}}"#,
+    ),
+    (
+        "c",
+        r#"{"updateOne":{"filter":{"n":1},"update":{"$push":{"n":1}}}}"#,
+        r#"looked 11 {"errors":[{"message":"Update target is of the wrong kind at n","errorCode":"UNSUPPORTED_UPDATE_OPERATION_TARGET"}]}"#,
+    ),
+    (
+        "c",
+        r#"{"insertOne":{"document":{"_id":"b","n":0,"s":"x"}}}"#,
+        r#"wrote 12 {"status":{"insertedIds":["b"]}}"#,
+    ),
+    (
+        "c",
+        r#"{"findOne":{"sort":{"n":1},"projection":{"s":1}}}"#,
+        r#"looked 14 {"data":{"document":{"_id":"b","s":"x"}}}"#,
+    ),
+    (
+        "c",
+        r#"{"find":{"filter":{},"sort":{"n":-1},"projection":{"_id":1}}}"#,
+        r#"looked 15 {"data":{"documents":[{"_id":"a"},{"_id":"b"}],"nextPageState":null}}"#,
+    ),
+    (
+        "c",
+        r#"{"find":{"sort":{"n":1},"projection":{"_id":1},"options":{"skip":1}}}"#,
+        r#"looked 16 {"data":{"documents":[{"_id":"a"}],"nextPageState":null}}"#,
+    ),
+    (
+        "c",
+        r#"{"find":{"projection":{"_id":1},"options":{"limit":1}}}"#,
+        r#"looked 17 {"data":{"documents":[{"_id":"a"}],"nextPageState":null}}"#,
+    ),
+];
+
+#[test]
+fn requests_see_and_do_what_they_say(rt: HostRuntime) -> Result<(), Fail> {
+    let alloc = rt.alloc();
+    let Some(mut store) = opened(alloc, 5, 0)? else {
+        panic!(rt; "not opened");
+    };
+    let wrong = first_wrong(alloc, &mut store, &ROWS);
+    let _keeper = store.into_keeper();
+    assert_eq!(rt; wrong?, None);
+    Ok(())
+}
+
+// Where no number is left, a write is told so, also where its collection is gone; a read isn't.
+const SPENT: [Row; 3] = [
+    (
+        "zz",
+        r#"{"insertOne":{"document":{"_id":"a"}}}"#,
+        r#"looked 1 {"errors":[{"message":"No version numbers are left","errorCode":"VERSIONS_SPENT"}]}"#,
+    ),
+    (
+        "zz",
+        r#"{"find":{}}"#,
+        r#"looked 2 {"errors":[{"message":"Collection zz does not exist","errorCode":"COLLECTION_NOT_EXIST"}]}"#,
+    ),
+    (
+        "zz",
+        r#"{"updateOne":{"filter":{},"update":{"$set":{"n":1}}}}"#,
+        r#"looked 3 {"errors":[{"message":"Collection zz does not exist","errorCode":"COLLECTION_NOT_EXIST"}]}"#,
+    ),
+];
+
+#[test]
+fn numbers_end(rt: HostRuntime) -> Result<(), Fail> {
+    let alloc = rt.alloc();
+    let Some(mut store) = opened(alloc, 99, 9_223_372_036_854_775_806)? else {
+        panic!(rt; "not opened");
+    };
+    let wrong = first_wrong(alloc, &mut store, &SPENT);
+    let _keeper = store.into_keeper();
+    assert_eq!(rt; wrong?, None);
+    Ok(())
+}
+
+// ---- a session that writes behind the looks of another one
+
+const INCREMENT: &str = r#"{"updateOne":{"filter":{"_id":"a"},"update":{"$inc":{"n":1}}}}"#;
+
+// One document is updated, where it is to be done now.
 fn rewritten_if(
     now: bool,
     alloc: Global,
@@ -113,7 +293,7 @@ fn rewritten_if(
     ensures base { SameBase store.old store.new }
 {
     if now {
-        return rewritten(alloc, store, session);
+        return Ok(run(alloc, store, session, "c", INCREMENT)?.is_some());
     }
     Ok(false)
 }
@@ -141,44 +321,8 @@ fn contended(
     Ok(None)
 }
 
-// A collection, a body, what is answered, and the one item with its point.
-type Row = (&'static str, &'static str, &'static str, &'static str, u64);
-
-// Whether a new session is answered so.
-fn is_answered(alloc: Global, store: &mut Store<MemKeeper>, row: Row) -> Result<bool, Fail> {
-    let coll = CollName::read(alloc, row.0)?;
-    let Some(command) = command_of(alloc, row.1)? else {
-        return Ok(false);
-    };
-    let Ok(session) = store.open_session(alloc) else {
-        return Ok(false);
-    };
-    let served = served(alloc, store, session, coll, command);
-    let text = text_of(alloc, &served.reply)?;
-    match served.trace.item(0) {
-        Some(item) => Ok(text.as_slice() == row.2.as_bytes() && tells(item) == (row.3, row.4)),
-        None => Ok(false),
-    }
-}
-
-// The place of the first row that isn't answered so.
-fn first_wrong(
-    alloc: Global,
-    store: &mut Store<MemKeeper>,
-    rows: &[Row],
-) -> Result<Option<usize>, Fail> {
-    for i in 0..rows.len() {
-        if !is_answered(alloc, store, rows[i])? {
-            return Ok(Some(i));
-        }
-    }
-    Ok(None)
-}
-
-const INCREMENT: &str = r#"{"updateOne":{"filter":{"_id":"a"},"update":{"$inc":{"n":1}}}}"#;
-
-// A request, how many times another session writes behind its looks, what is answered, and the items with their points.
-type Race = (&'static str, usize, &'static str, &'static str);
+// A request, how many times another session writes behind its looks, and the tale.
+type Race = (&'static str, usize, &'static str);
 
 // The last two: of two documents with one sort key, the first is chosen, changed by another session, and lost; in the
 // new round the other one comes first.
@@ -186,154 +330,34 @@ const RACES: [Race; 6] = [
     (
         INCREMENT,
         0,
-        r#"{"status":{"matchedCount":1,"modifiedCount":1}}"#,
-        "looked 4 wrote 4 ",
+        r#"looked 4 wrote 4 {"status":{"matchedCount":1,"modifiedCount":1}}"#,
     ),
     (
         INCREMENT,
         1,
-        r#"{"status":{"matchedCount":1,"modifiedCount":1}}"#,
-        "looked 7 lost 8 looked 8 wrote 8 ",
+        r#"looked 7 lost 8 looked 8 wrote 8 {"status":{"matchedCount":1,"modifiedCount":1}}"#,
     ),
     (
         INCREMENT,
         4,
-        r#"{"errors":[{"message":"Lost to other writers: 4>5, 5>6, 6>7, 7>8","errorCode":"CONCURRENCY_FAILURE"}]}"#,
-        "looked 11 lost 12 looked 12 lost 13 looked 13 lost 14 looked 14 lost 15 ",
+        r#"looked 11 lost 12 looked 12 lost 13 looked 13 lost 14 looked 14 lost 15 {"errors":[{"message":"Lost to other writers: 4>5, 5>6, 6>7, 7>8","errorCode":"CONCURRENCY_FAILURE"}]}"#,
     ),
     (
         r#"{"insertOne":{"document":{"_id":"b","n":8}}}"#,
         0,
-        r#"{"status":{"insertedIds":["b"]}}"#,
-        "wrote 17 ",
+        r#"wrote 17 {"status":{"insertedIds":["b"]}}"#,
     ),
     (
         r#"{"updateOne":{"filter":{},"sort":{"n":1},"update":{"$set":{"won":true}}}}"#,
         1,
-        r#"{"status":{"matchedCount":1,"modifiedCount":1}}"#,
-        "looked 20 lost 21 looked 21 wrote 21 ",
+        r#"looked 20 lost 21 looked 21 wrote 21 {"status":{"matchedCount":1,"modifiedCount":1}}"#,
     ),
     (
         r#"{"findOne":{"filter":{"won":true}}}"#,
         0,
-        r#"{"data":{"document":{"_id":"b","n":8,"won":true}}}"#,
-        "looked 24 ",
+        r#"looked 24 {"data":{"document":{"_id":"b","n":8,"won":true}}}"#,
     ),
 ];
-
-// The fifth call of the keeper fails: the first lists, the second makes the collection.
-const ROWS: [Row; 14] = [
-    (
-        "c",
-        r#"{"insertOne":{"document":{"_id":"a","n":1}}}"#,
-        r#"{"status":{"insertedIds":["a"]}}"#,
-        "wrote",
-        1,
-    ),
-    (
-        "c",
-        r#"{"insertOne":{"document":{"_id":"a"}}}"#,
-        r#"{"errors":[{"message":"Document \"a\" already exists at version 1","errorCode":"DOCUMENT_ALREADY_EXISTS"}]}"#,
-        "lost",
-        3,
-    ),
-    (
-        "c",
-        r#"{"findOne":{}}"#,
-        r#"{"errors":[{"message":"Store fault: 0 then 1","errorCode":"STORE_FAULT"}]}"#,
-        "faulted",
-        4,
-    ),
-    (
-        "c",
-        r#"{"findOne":{"filter":{"n":1}}}"#,
-        r#"{"data":{"document":{"_id":"a","n":1}}}"#,
-        "looked",
-        6,
-    ),
-    (
-        "c",
-        r#"{"countDocuments":{"filter":{"n":2}}}"#,
-        r#"{"status":{"count":0}}"#,
-        "looked",
-        7,
-    ),
-    (
-        "zz",
-        r#"{"insertOne":{"document":{"_id":"a"}}}"#,
-        r#"{"errors":[{"message":"Collection zz does not exist","errorCode":"COLLECTION_NOT_EXIST"}]}"#,
-        "looked",
-        8,
-    ),
-    (
-        "c",
-        r#"{"updateOne":{"filter":{"n":2},"update":{"$set":{"n":3}}}}"#,
-        r#"{"status":{"matchedCount":0,"modifiedCount":0}}"#,
-        "looked",
-        9,
-    ),
-    (
-        "c",
-        r#"{"updateOne":{"filter":{"n":1},"update":{"$set":{"n":1}}}}"#,
-        r#"{"status":{"matchedCount":1,"modifiedCount":0}}"#,
-        "looked",
-        10,
-    ),
-    (
-        "c",
-        r#"{"updateOne":{"filter":{"n":1},"update":{"$push":{"n":1}}}}"#,
-        r#"{"errors":[{"message":"Update target is of the wrong kind at n","errorCode":"UNSUPPORTED_UPDATE_OPERATION_TARGET"}]}"#,
-        "looked",
-        11,
-    ),
-    (
-        "c",
-        r#"{"insertOne":{"document":{"_id":"b","n":0,"s":"x"}}}"#,
-        r#"{"status":{"insertedIds":["b"]}}"#,
-        "wrote",
-        12,
-    ),
-    (
-        "c",
-        r#"{"findOne":{"sort":{"n":1},"projection":{"s":1}}}"#,
-        r#"{"data":{"document":{"_id":"b","s":"x"}}}"#,
-        "looked",
-        14,
-    ),
-    (
-        "c",
-        r#"{"find":{"filter":{},"sort":{"n":-1},"projection":{"_id":1}}}"#,
-        r#"{"data":{"documents":[{"_id":"a"},{"_id":"b"}],"nextPageState":null}}"#,
-        "looked",
-        15,
-    ),
-    (
-        "c",
-        r#"{"find":{"sort":{"n":1},"projection":{"_id":1},"options":{"skip":1}}}"#,
-        r#"{"data":{"documents":[{"_id":"a"}],"nextPageState":null}}"#,
-        "looked",
-        16,
-    ),
-    (
-        "c",
-        r#"{"find":{"projection":{"_id":1},"options":{"limit":1}}}"#,
-        r#"{"data":{"documents":[{"_id":"a"}],"nextPageState":null}}"#,
-        "looked",
-        17,
-    ),
-];
-
-#[test]
-fn requests_see_and_do_what_they_say(rt: HostRuntime) -> Result<(), Fail> {
-    let alloc = rt.alloc();
-    let Some(mut store) = opened(alloc, 5, 0)? else {
-        panic!(rt; "not opened");
-    };
-    let wrong = first_wrong(alloc, &mut store, &ROWS);
-    let _keeper = store.into_keeper();
-    assert_eq!(rt; wrong?, None);
-    Ok(())
-}
 
 // A request, behind whose first looks another session writes, so many times.
 fn contested(
@@ -346,12 +370,14 @@ fn contested(
     requires known { (session < opened_in store.old.journal) × (other < opened_in store.old.journal) }
     requires apart { session ≢ other }
 {
-    let coll = CollName::read(alloc, "c")?;
-    let Some(command) = command_of(alloc, race.0)? else {
-        return Ok(None);
-    };
-    let task = Task::new(alloc, session, coll, 0, command);
-    contended(alloc, store, task, other, race.1)
+    match command_of(alloc, race.0)? {
+        Some(command) => {
+            let coll = CollName::read(alloc, "c")?;
+            let task = Task::new(alloc, session, coll, 0, command);
+            contended(alloc, store, task, other, race.1)
+        }
+        None => Ok(None),
+    }
 }
 
 // The same by two sessions that are opened for it.
@@ -365,26 +391,12 @@ fn raced(alloc: Global, store: &mut Store<MemKeeper>, race: Race) -> Result<Opti
     }
 }
 
-// The items of a trace, each with its point.
-fn items_of(alloc: Global, trace: &Trace) -> Result<String, Fail> {
-    let mut items = String::new(alloc);
-    for place in 0..trace.len() {
-        if let Some(item) = trace.item(place) {
-            let (word, at) = tells(item);
-            items.push_str(&format!(in alloc; "{word} {at} ")?)?;
-        }
-    }
-    Ok(items)
-}
-
 // Whether a race ends so.
 fn ends_so(alloc: Global, store: &mut Store<MemKeeper>, race: Race) -> Result<bool, Fail> {
-    let Some(served) = raced(alloc, store, race)? else {
-        return Ok(false);
-    };
-    let text = text_of(alloc, &served.reply)?;
-    let items = items_of(alloc, &served.trace)?;
-    Ok(text.as_slice() == race.2.as_bytes() && items.as_str() == race.3)
+    match raced(alloc, store, race)? {
+        Some(served) => Ok(tale(alloc, &served)?.as_str() == race.2),
+        None => Ok(false),
+    }
 }
 
 // The place of the first race that doesn't end so, one behind the other on one store.
@@ -416,42 +428,16 @@ fn an_update_is_tried_four_times(rt: HostRuntime) -> Result<(), Fail> {
     Ok(())
 }
 
-// What a new session of the collection `c` is answered, and its items; nothing where it has no session.
-fn asked(alloc: Global, store: &mut Store<MemKeeper>, body: &str) -> Result<Option<Served>, Fail> {
-    let coll = CollName::read(alloc, "c")?;
-    let Some(command) = command_of(alloc, body)? else {
-        return Ok(None);
-    };
-    match store.open_session(alloc) {
-        Ok(session) => Ok(Some(served(alloc, store, session, coll, command))),
-        Err(_) => Ok(None),
-    }
-}
-
-// The words of its items, and its reply.
-fn told(alloc: Global, store: &mut Store<MemKeeper>, body: &str) -> Result<String, Fail> {
-    let mut told = String::new(alloc);
-    let Some(served) = asked(alloc, store, body)? else {
-        return Ok(told);
-    };
-    for place in 0..served.trace.len() {
-        if let Some(item) = served.trace.item(place) {
-            told.push_str(tells(item).0)?;
-            told.push_str(" ")?;
-        }
-    }
-    told.push_str(str::from_utf8(text_of(alloc, &served.reply)?.as_slice()).unwrap_or("?"))?;
-    Ok(told)
-}
+// ---- many documents
 
 // Documents m100, m101 and so on, the sixth of which has the least n.
-fn fill(alloc: Global, store: &mut Store<MemKeeper>, count: u64) -> Result<(), Fail> {
-    for i in 100..100 + count {
+fn fill(alloc: Global, store: &mut Store<MemKeeper>) -> Result<(), Fail> {
+    for i in 100..170 {
         let n = if i < 105 { 105 - i } else { i - 105 };
         let body = format!(in alloc;
             "{{\"insertOne\":{{\"document\":{{\"_id\":\"m{i}\",\"n\":{n}}}}}}}"
         )?;
-        told(alloc, store, body.as_str())?;
+        told(alloc, store, "c", body.as_str())?;
     }
     Ok(())
 }
@@ -473,37 +459,42 @@ fn page_behind(alloc: Global, served: &Served) -> Result<String, Fail> {
 }
 
 // Two pages, between which documents are inserted before the last one that was given, and behind it.
-fn two_pages(alloc: Global, store: &mut Store<MemKeeper>) -> Result<String, Fail> {
+fn second_page(alloc: Global, store: &mut Store<MemKeeper>) -> Result<String, Fail> {
     let first = r#"{"find":{"projection":{"_id":1},"options":{"limit":22}}}"#;
-    let Some(served) = asked(alloc, store, first)? else {
-        return Ok(String::new(alloc));
+    let body = match asked(alloc, store, "c", first)? {
+        Some(served) => page_behind(alloc, &served)?,
+        None => String::new(alloc),
     };
-    told(alloc, store, r#"{"insertOne":{"document":{"_id":"a"}}}"#)?;
     told(
         alloc,
         store,
+        "c",
+        r#"{"insertOne":{"document":{"_id":"a"}}}"#,
+    )?;
+    told(
+        alloc,
+        store,
+        "c",
         r#"{"insertOne":{"document":{"_id":"m1195"}}}"#,
     )?;
-    let body = page_behind(alloc, &served)?;
-    told(alloc, store, body.as_str())
+    told(alloc, store, "c", body.as_str())
 }
 
-// A sort whose first document stands on an earlier page of the keeper than the last one.
-fn sorted_update(alloc: Global, store: &mut Store<MemKeeper>) -> Result<String, Fail> {
-    let body =
+// The tale of the second page, and those of an update whose sort brings a document of the first of two looks, and of
+// the document that it changed.
+fn many_told(alloc: Global, store: &mut Store<MemKeeper>) -> Result<String, Fail> {
+    fill(alloc, store)?;
+    let mut tales = second_page(alloc, store)?;
+    let update =
         r#"{"updateOne":{"filter":{"n":{"$gte":0}},"sort":{"n":1},"update":{"$set":{"least":true}}}}"#;
-    let mut both = told(alloc, store, body)?;
-    let found = told(alloc, store, r#"{"findOne":{"filter":{"least":true}}}"#)?;
-    both.push_str(found.as_str())?;
-    Ok(both)
+    tales.push_str(told(alloc, store, "c", update)?.as_str())?;
+    let changed = r#"{"findOne":{"filter":{"least":true}}}"#;
+    tales.push_str(told(alloc, store, "c", changed)?.as_str())?;
+    Ok(tales)
 }
 
-fn pages_and_sort(alloc: Global, store: &mut Store<MemKeeper>) -> Result<(String, String), Fail> {
-    fill(alloc, store, 70)?;
-    let pages = two_pages(alloc, store)?;
-    let sorted = sorted_update(alloc, store)?;
-    Ok((pages, sorted))
-}
+const TALES: &str =
+    r#"looked 146 {"data":{"documents":[{"_id":"m1195"},{"_id":"m120"}],"nextPageState":null}}looked 147 looked 147 wrote 147 {"status":{"matchedCount":1,"modifiedCount":1}}looked 149 {"data":{"document":{"_id":"m105","n":0,"least":true}}}"#;
 
 #[test]
 fn pages_and_sorts_over_many_documents(rt: HostRuntime) -> Result<(), Fail> {
@@ -511,53 +502,8 @@ fn pages_and_sorts_over_many_documents(rt: HostRuntime) -> Result<(), Fail> {
     let Some(mut store) = opened(alloc, 9_999, 0)? else {
         panic!(rt; "not opened");
     };
-    let told = pages_and_sort(alloc, &mut store);
+    let tales = many_told(alloc, &mut store);
     let _keeper = store.into_keeper();
-    let (pages, sorted) = told?;
-    assert_eq!(rt;
-        pages.as_str(),
-        r#"looked {"data":{"documents":[{"_id":"m1195"},{"_id":"m120"}],"nextPageState":null}}"#
-    );
-    assert_eq!(rt;
-        sorted.as_str(),
-        r#"looked looked wrote {"status":{"matchedCount":1,"modifiedCount":1}}looked {"data":{"document":{"_id":"m105","n":0,"least":true}}}"#
-    );
-    Ok(())
-}
-
-// Where no number is left, a write is told so, also where its collection is gone; a read isn't.
-const SPENT: [Row; 3] = [
-    (
-        "zz",
-        r#"{"insertOne":{"document":{"_id":"a"}}}"#,
-        r#"{"errors":[{"message":"No version numbers are left","errorCode":"VERSIONS_SPENT"}]}"#,
-        "looked",
-        1,
-    ),
-    (
-        "zz",
-        r#"{"find":{}}"#,
-        r#"{"errors":[{"message":"Collection zz does not exist","errorCode":"COLLECTION_NOT_EXIST"}]}"#,
-        "looked",
-        2,
-    ),
-    (
-        "zz",
-        r#"{"updateOne":{"filter":{},"update":{"$set":{"n":1}}}}"#,
-        r#"{"errors":[{"message":"Collection zz does not exist","errorCode":"COLLECTION_NOT_EXIST"}]}"#,
-        "looked",
-        3,
-    ),
-];
-
-#[test]
-fn numbers_end(rt: HostRuntime) -> Result<(), Fail> {
-    let alloc = rt.alloc();
-    let Some(mut store) = opened(alloc, 99, 9_223_372_036_854_775_806)? else {
-        panic!(rt; "not opened");
-    };
-    let wrong = first_wrong(alloc, &mut store, &SPENT);
-    let _keeper = store.into_keeper();
-    assert_eq!(rt; wrong?, None);
+    assert_eq!(rt; tales?.as_str(), TALES);
     Ok(())
 }
