@@ -1,5 +1,5 @@
 // One step of a search: a look, and the first so many of what was found so far.
-ghost use Rattle.std.specs.Prelude.{◌≡◌, ◌+◌, ◌<◌, ◌≤◌, length, List, Option, Some, IfOk};
+ghost use Rattle.std.specs.Prelude.{◌≡◌, ◌+◌, ◌++◌, ◌<◌, ◌≤◌, length, List, Option, Some, IfOk};
 ghost use Rattle.std.specs.Option.{ForSome};
 ghost use Rattle.json_tree.specs.Tree.{Tree};
 ghost use Rattle.store_core.specs.Counts.{opened_in};
@@ -44,6 +44,19 @@ fn are_documents(rows: &[Row])
     }
 }
 
+/// The rows that were kept, and the page's behind them.
+fn joined(kept: Vec<Row>, rows: Vec<Row>) -> Result<Vec<Row>, ViewFault>
+    ensures { IfOk result (λ all. all.items ≡ kept.items ++ rows.items) }
+{
+    if kept.is_empty() {
+        return Ok(rows);
+    }
+    let mut all = kept;
+    let mut rows = rows;
+    all.append(&mut rows)?;
+    Ok(all)
+}
+
 /// The first so many of those that were kept and of the page's.
 fn first(
     alloc: Global,
@@ -56,9 +69,7 @@ fn first(
     if rows.is_empty() {
         return Ok(kept);
     }
-    let mut all = kept;
-    let mut rows = rows;
-    all.append(&mut rows)?;
+    let mut all = joined(kept, rows)?;
     if search.sort.is_empty() {
         all.truncate(search.keep);
         return Ok(all);
