@@ -108,11 +108,9 @@ fn run(
     ensures grown { (more : List Journaled) × (store.new.journal ≡ store.old.journal ++ more) × AllBy session more }
     ensures base { SameBase store.old store.new }
 {
+    let coll = CollName::read(alloc, name)?;
     match command_of(alloc, body)? {
-        Some(command) => {
-            let coll = CollName::read(alloc, name)?;
-            Ok(Some(served(alloc, store, session, coll, command)))
-        }
+        Some(command) => Ok(Some(served(alloc, store, session, coll, command))),
         None => Ok(None),
     }
 }
@@ -370,9 +368,9 @@ fn contested(
     requires known { (session < opened_in store.old.journal) × (other < opened_in store.old.journal) }
     requires apart { session ≢ other }
 {
+    let coll = CollName::read(alloc, "c")?;
     match command_of(alloc, race.0)? {
         Some(command) => {
-            let coll = CollName::read(alloc, "c")?;
             let task = Task::new(alloc, session, coll, 0, command);
             contended(alloc, store, task, other, race.1)
         }
