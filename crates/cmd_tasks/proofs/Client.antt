@@ -28,9 +28,9 @@ use Rattle.cmd_tasks.specs.Searches.{stored}
 use Rattle.cmd_tasks.specs.Pages.{last_of}
 use Rattle.cmd_tasks.specs.Part.{given_of, from_of, keep_of, state_after}
 use Rattle.cmd_tasks.specs.Served.{TellsListed, sights, IsPartOf, Answers}
-use Rattle.cmd_tasks.specs.Joined.{HasKey, AreRows, HasKeys, Page, Lists, views_of, state_of, GoesOnWith, paging_of, Rise, HasMatch, Matches, looks, joined, IsPage, GoOn, ArePages, ShowEachOnce}
-use Rattle.cmd_tasks.proofs.Ascent.{each_append, each_take, sights_rows}
-use Rattle.cmd_tasks.proofs.Covering.{same, after_after, one_left, one_right, one_has, each_weaker, IsShown, IsPast, rise_append, IsBefore, listing_rises, listing_covers, listing_matches}
+use Rattle.cmd_tasks.specs.Joined.{HasKey, IdsAreTold, Page, Lists, views_of, state_of, GoesOnWith, paging_of, Rise, HasMatch, Matches, looks, joined, IsPage, GoOn, ArePages, ShowEachOnce}
+use Rattle.cmd_tasks.proofs.Ascent.{each_append, each_take, InOrder, each_sight, sights_rows}
+use Rattle.cmd_tasks.proofs.Covering.{same, after_after, one_left, one_right, one_has, each_weaker, IsShown, IsPast, rise_append, IsBefore, listing_rises, listing_told, listing_covers, listing_matches}
 
 -- ---- lists
 
@@ -141,14 +141,12 @@ module _ (base : State) (H : List Entry) (coll : Name) (f : FilterTree) (shows :
   -- ---- what one page shows
 
   -- in order of id, after the page's start
-  rises : (p : Page) → IsSeen p → HasKeys base H → Each (λ x. is_after (start_of p) x.id ≡ true) (found_by p) × Rise (found_by p)
-  rises p seen keys = listing_rises base coll f (start_of p) 20 (seen_in p) (sights_rows base H coll keys p.trace) seen.listing
+  rises : (p : Page) → IsSeen p → InOrder base.collections → Each (λ x. is_after (start_of p) x.id ≡ true) (found_by p) × Rise (found_by p)
+  rises p seen sorted = listing_rises base coll f (start_of p) 20 (seen_in p) (sights_rows base H coll sorted p.trace) seen.listing
 
   -- the ids of a page's documents are told apart by key bytes
-  has_key : (p : Page) → HasKeys base H → Each (λ x. HasKey x.id) (found_by p)
-  has_key p keys = each_weaker _ _
-      (λ x h. one_has (λ e. HasKey e.0) (x.id, stored x) (rows_now base coll h.0) h.3.0 (one_has (λ s. AreRows (rows_now base coll s)) h.0 (seen_in p) h.1 (sights_rows base H coll keys p.trace)).1)
-      (found_by p) (listing_matches base coll f None 20 (seen_in p))
+  has_key : (p : Page) → IsSeen p → Each IdsAreTold p.trace → Each (λ x. HasKey x.id) (found_by p)
+  has_key p seen told = listing_told base coll f (start_of p) 20 (seen_in p) seen.listing (each_sight (λ s. IdsAreTold s.item) H p.trace told)
 
   -- a listing that came to its end has come to each id
   at_end : (p : Page) (id : Tree) (seen : List Sight) → IsListed base coll f 20 seen → length (shown base coll f seen) < 20 → IsBefore base coll f (start_of p) 20 id seen → ⊥
@@ -172,12 +170,12 @@ module _ (base : State) (H : List Entry) (coll : Name) (f : FilterTree) (shows :
       (⊎_elim (λ x. x) (λ b. absurd (at_end p id (seen_in p) seen.listed less b.0)) (listing_covers base coll f (start_of p) 20 (seen_in p) seen.listing id h all))
 
   -- every other page shows all that matches throughout, up to its last document
-  page_covers : (p : Page) → IsSeen p → HasKeys base H → (x : Found) → last_of (part p) ≡ Some x → (id : Tree) → is_after (start_of p) id ≡ true → MatchesIn p id
+  page_covers : (p : Page) → IsSeen p → InOrder base.collections → (x : Found) → last_of (part p) ≡ Some x → (id : Tree) → is_after (start_of p) id ≡ true → MatchesIn p id
       → IsShown id (part p) ⊎ (is_after (Some x.id) id ≡ true)
-  page_covers p seen keys x last id h all =
+  page_covers p seen sorted x last id h all =
       let xs = found_by p in
       let whole = take-append-drop 20 xs in
-      let up = (rises p seen keys).1 in
+      let up = (rises p seen sorted).1 in
       ⊎_elim
       (λ (y : IsShown id xs). ⊎_elim
       (λ (one : IsOneOf y.0 (take 20 xs)). inl (y.0, one, y.2))
@@ -200,14 +198,14 @@ module _ (base : State) (H : List Entry) (coll : Name) (f : FilterTree) (shows :
     all : (id : Tree) → is_after from id ≡ true → Each (HasMatch base coll f id) (looks H pages) → IsShown id xs
 
   -- a page before others
-  join : (p : Page) (ps : List Page) (ys : List Found) → IsSeen p → HasKeys base H → flat_map (λ q. views_of q.reply) ps ≡ map (λ x. view shows x.doc) ys → Rise ys
+  join : (p : Page) (ps : List Page) (ys : List Found) → IsSeen p → InOrder base.collections → flat_map (λ q. views_of q.reply) ps ≡ map (λ x. view shows x.doc) ys → Rise ys
       → Each (λ y. IsPast y.id (part p) × (is_after (start_of p) y.id ≡ true)) ys → Each (WasSeen ps) ys
       → ((id : Tree) → is_after (start_of p) id ≡ true → MatchesIn p id → Each (HasMatch base coll f id) (looks H ps) → IsShown id (part p) ⊎ IsShown id ys)
       → Join (start_of p) (p ∷ ps) (part p ++ ys)
-  join p ps ys seen keys told rise past matched covers =
+  join p ps ys seen sorted told rise past matched covers =
       let xs = part p in
       let more = looks H ps in
-      let up = rises p seen keys in
+      let up = rises p seen sorted in
       record {
         told = ap₂ (λ a b. a ++ b) seen.views told ∙ sym (map-append (λ x. view shows x.doc) xs ys);
         rise = rise_append xs ys (rise_take 20 (found_by p) up.1) rise (each_weaker _ _ (λ y h. h.0) ys past);
@@ -221,23 +219,23 @@ module _ (base : State) (H : List Entry) (coll : Name) (f : FilterTree) (shows :
             (covers id h (each_front _ (seen_in p) more match) (each_back _ (seen_in p) more match));
       }
 
-  module _ (apart : (m n : ℕ) (s t : Tree) → m < 2 ^ 64 → n < 2 ^ 64 → IsId s → IsInRange s → IsId t → IsInRange t → state_text m s ≡ state_text n t → (m ≡ n) × (s ≡ t)) (keys : HasKeys base H) where
+  module _ (apart : (m n : ℕ) (s t : Tree) → m < 2 ^ 64 → n < 2 ^ 64 → IsId s → IsInRange s → IsId t → IsInRange t → state_text m s ≡ state_text n t → (m ≡ n) × (s ≡ t)) (sorted : InOrder base.collections) where
     -- a page that goes on with a state begins behind the document that the state names
     begins : (from : Option PageState) (n : ℕ) (id : Tree) → n < 2 ^ 63 → HasKey id → GoesOnWith (Some (state_text n id)) from → option_map (λ s. s.last) from ≡ Some id
     begins None n id low key h = absurd h
-    begins (Some s) n id low key h = ap (λ i. Some i) (apart s.given n s.last id (omega (arith, h.1)) (omega (arith, low)) h.2.0 h.2.1 key.0 key.1 h.0).1
+    begins (Some s) n id low key h = ap (λ i. Some i) (apart s.given n s.last id (omega (arith, h.given)) (omega (arith, low)) h.is_id h.in_range key.0 key.1 h.spells).1
 
-    joins : (p : Page) (ps : List Page) → IsPage base H coll f shows p → GoOn base H coll f shows ps (state_of p.reply) → Join (start_of p) (p ∷ ps) (joined base H coll f (p ∷ ps))
-    joins p [] h on =
+    joins : (p : Page) (ps : List Page) → Each (λ p. Each IdsAreTold p.trace) (p ∷ ps) → IsPage base H coll f shows p → GoOn base H coll f shows ps (state_of p.reply) → Join (start_of p) (p ∷ ps) (joined base H coll f (p ∷ ps))
+    joins p [] told h on =
         let seen = is_seen p h in
         ⊎_elim
-        (λ e. join p [] [] seen keys refl tt tt tt (λ id a match none. inl (last_covers p seen e.1 id a match)))
+        (λ e. join p [] [] seen sorted refl tt tt tt (λ id a match none. inl (last_covers p seen e.1 id a match)))
         (λ e. absurd (none _ (sym e.4 ∙ on)))
         (next_of p.from (part p) (state_of p.reply) seen.state)
       where
         none : {A : Type 0} (a : A) → Some a ≡ None → ⊥
         none a e = cc
-    joins p (q ∷ ps) h on = further (is_seen p h) (joins q ps on.1 on.2)
+    joins p (q ∷ ps) told h on = further (is_seen p h) (joins q ps told.1 on.1 on.2)
       where
         ys : List Found
         ys = joined base H coll f (q ∷ ps)
@@ -247,20 +245,20 @@ module _ (base : State) (H : List Entry) (coll : Name) (f : FilterTree) (shows :
             (λ e. absurd (subst (λ state. GoesOnWith state q.from) e.0 on.0))
             (λ e.
             let x = e.0 in let last = e.2 in
-            let up = rises p seen keys in
-            let key = last_has (λ z. HasKey z.id) (part p) x last (each_take _ 20 (found_by p) (has_key p keys)) in
+            let up = rises p seen sorted in
+            let key = last_has (λ z. HasKey z.id) (part p) x last (each_take _ 20 (found_by p) (has_key p seen told.0)) in
             let start = begins q.from e.1 x.id e.3 key (subst (λ state. GoesOnWith state q.from) e.4 on.0) in
             let here = last_has (λ z. is_after (start_of p) z.id ≡ true) (part p) x last (each_take _ 20 (found_by p) up.0) in
             let behind = subst (λ o. Each (λ y. is_after o y.id ≡ true) ys) start rest.after in
-            join p (q ∷ ps) ys seen keys rest.told rest.rise
+            join p (q ∷ ps) ys seen sorted rest.told rest.rise
             (each_weaker _ _ (λ y h. (last_past (part p) x y.id (rise_take 20 (found_by p) up.1) last h, after_after (start_of p) x.id y.id here h)) ys behind)
             rest.matched
-            (λ id a match more. ⊎_elim (λ one. inl one) (λ far. inr (rest.all id (subst (λ o. is_after o id ≡ true) (sym start) far) more)) (page_covers p seen keys x last id a match)))
+            (λ id a match more. ⊎_elim (λ one. inl one) (λ far. inr (rest.all id (subst (λ o. is_after o id ≡ true) (sym start) far) more)) (page_covers p seen sorted x last id a match)))
             (next_of p.from (part p) (state_of p.reply) seen.state)
 
-    pub pages_shown : (pages : List Page) → ArePages base H coll f shows pages → ShowEachOnce base H coll f shows pages
-    pages_shown [] h = absurd h
-    pages_shown (p ∷ ps) h =
-        let all = joins p ps h.1 h.2 in
+    pub pages_shown : (pages : List Page) → Each (λ p. Each IdsAreTold p.trace) pages → ArePages base H coll f shows pages → ShowEachOnce base H coll f shows pages
+    pages_shown [] told h = absurd h
+    pages_shown (p ∷ ps) told h =
+        let all = joins p ps told h.1 h.2 in
         let first : start_of p ≡ None = ap (option_map (λ s. s.last)) h.0 in
         record { told = all.told; rise = all.rise; matched = all.matched; all = λ id match. all.all id (subst (λ o. is_after o id ≡ true) (sym first) refl) match }

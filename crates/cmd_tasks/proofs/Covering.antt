@@ -15,7 +15,7 @@ use Rattle.store_core.specs.State.{State}
 use Rattle.cmd_tasks.specs.Trace.{Sight, Found, found, found_in, probed_in, probe_of, up_to, end_of, next_from, rows_now, Looks, seen_by, shown_by, shown, FullPage, GoesOn, IsListing}
 use Rattle.cmd_tasks.specs.Attempts.{IsOneOf}
 use Rattle.cmd_tasks.specs.Searches.{stored}
-use Rattle.cmd_tasks.specs.Joined.{AreRows, Rise, Matches, HasMatch}
+use Rattle.cmd_tasks.specs.Joined.{HasKey, IdsAreTold, Rise, Matches, HasMatch}
 use Rattle.cmd_tasks.specs.declared.trace.Item.{Item}
 use Rattle.cmd_tasks.specs.declared.trace.Item.TheVariants.{Looked, Wrote, Lost, Faulted}
 use Rattle.cmd_tasks.proofs.Listing.{Row, IsBelow, Rises, rises, ids_total}
@@ -80,6 +80,10 @@ one_has P x (z ∷ xs) (suc n, e) all = one_has P x xs (n, e) all.1
 pub each_weaker : {A : Type 0} (P Q : A → Type 0) → ((a : A) → P a → Q a) → (xs : List A) → Each P xs → Each Q xs
 each_weaker P Q go [] h = tt
 each_weaker P Q go (x ∷ xs) h = (go x h.0, each_weaker P Q go xs h.1)
+
+each_of_map : {A B : Type 0} (P : B → Type 0) (g : A → B) (xs : List A) → Each P (map g xs) → Each (λ x. P (g x)) xs
+each_of_map P g [] h = tt
+each_of_map P g (x ∷ xs) h = (h.0, each_of_map P g xs h.1)
 
 each_own : {A : Type 0} (xs : List A) → Each (λ x. IsOneOf x xs) xs
 each_own [] = tt
@@ -183,6 +187,13 @@ module _ (base : State) (coll : Name) (f : FilterTree) (r : Rows) where
   look_matches (Lost at read old) = tt
   look_matches (Faulted at before count) = tt
 
+  -- the ids of what a look shows are those that it tells
+  look_told : (i : Item) (from : Option Tree) → Looks base coll f r from i → IdsAreTold i → Each (λ x. HasKey x.id) (seen_by base coll f r i)
+  look_told (Looked at after up page) from is told = each_of_map (λ e. HasKey e.0) (λ x. (x.id, x.tx)) (found_in r f after up) (subst (Each (λ e. HasKey e.0)) is.1 told)
+  look_told (Wrote at) from is told = absurd is
+  look_told (Lost at read old) from is told = absurd is
+  look_told (Faulted at before count) from is told = absurd is
+
   -- a document that stands after the look's start and matches is shown, or comes after the look's end
   look_covers : (i : Item) (from : Option Tree) (id : Tree) (v : Version) → Looks base coll f r from i → is_after from id ≡ true → IsOneOf (id, v) r → matches f v.doc ≡ true
       → IsShown id (seen_by base coll f r i) ⊎ ((u : Tree) × (end_of i ≡ Some u) × (is_after (Some u) id ≡ true) × IsPast id (seen_by base coll f r i))
@@ -218,17 +229,23 @@ module _ (base : State) (coll : Name) (f : FilterTree) (from : Option Tree) (mos
       (more.0, each_append _ (shown base coll f earlier) _ more.1 one.1)
 
   -- a listing shows documents after its start, in order of id
-  pub listing_rises : (looks : List Sight) → Each (λ s. AreRows (rows_now base coll s)) looks → IsListing base coll f from most looks
+  pub listing_rises : (looks : List Sight) → Each (λ s. ascends (rows_now base coll s) ≡ true) looks → IsListing base coll f from most looks
       → Each (λ x. is_after from x.id ≡ true) (shown base coll f looks) × Rise (shown base coll f looks)
   listing_rises [] rows is = (tt, tt)
   listing_rises (s ∷ earlier) rows is =
       let before = shown base coll f earlier in
       let new = shown_by base coll f s in
-      let one = look_rises base coll f (rows_now base coll s) s.item (next_from from earlier) rows.0.0 is.2.1 in
+      let one = look_rises base coll f (rows_now base coll s) s.item (next_from from earlier) rows.0 is.2.1 in
       let more = listing_rises earlier rows.1 is.0 in (
         each_append _ before new more.0 (each_weaker _ _ (λ x h. (listing_behind earlier is.0 is.1 x.id h).0) new one.0),
         rise_append before new more.1 one.1 (each_weaker _ _ (λ x h. (listing_behind earlier is.0 is.1 x.id h).1) new one.0),
       )
+
+  -- the ids of what a listing shows are those that its looks tell
+  pub listing_told : (looks : List Sight) → IsListing base coll f from most looks → Each (λ s. IdsAreTold s.item) looks → Each (λ x. HasKey x.id) (shown base coll f looks)
+  listing_told [] is told = tt
+  listing_told (s ∷ earlier) is told =
+      each_append _ (shown base coll f earlier) (shown_by base coll f s) (listing_told earlier is.0 told.1) (look_told base coll f (rows_now base coll s) s.item (next_from from earlier) is.2.1 told.0)
 
   -- the listing hasn't come to this id
   abbrev pub IsBefore : Tree → List Sight → Type 0

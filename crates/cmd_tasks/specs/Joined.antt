@@ -1,48 +1,42 @@
 -- The pages of one find, joined by their states.
-use Rattle.std.specs.Prelude.{◌≡◌, ◌<◌, ◌^◌, ℕ, ℤ, true, List, [], ◌∷◌, map, Option, Some, None, MatchOption, ⊤}
+use Rattle.std.specs.Prelude.{◌≡◌, ℕ, ℤ, true, List, [], ◌∷◌, map, Option, Some, None, MatchOption, ⊤}
 use Rattle.std.specs.List.{flat_map, AllByRecursion as Each}
 use Rattle.json_tree.specs.Tree.{Tree}
 use Rattle.json_tree.specs.View.{tree}
 use Rattle.json_tree.specs.Id.{IsId, IsInRange}
 use Rattle.shred_cols.specs.Row.{Version}
-use Rattle.shred_cols.specs.Rows.{Rows, ascends, is_after}
+use Rattle.shred_cols.specs.Rows.{is_after}
 use Rattle.col_keeper.specs.Tables.{Name}
 use Rattle.filter_tree.specs.Filters.{FilterTree}
 use Rattle.filter_tree.specs.Matches.{matches}
-use Rattle.view_sort.specs.Page.{state_text}
 use Rattle.view_sort.specs.View.{view}
 use Rattle.view_sort.specs.declared.page.PageState.{PageState}
 use Rattle.reply_env.specs.declared.reply.Reply.{Reply}
 use Rattle.reply_env.specs.declared.reply.Reply.TheVariants.{Listed}
 use Rattle.store_core.specs.State.{State}
 use Rattle.store_core.specs.declared.entry.Entry.{Entry}
-use Rattle.store_core.specs.declared.entry.Entry.TheVariants.{Changed}
 use Rattle.cmd_grammar.specs.Commands.{Shows, Paging, find}
+use Rattle.cmd_grammar.specs.Parts.{Spells}
 use Rattle.cmd_tasks.specs.Trace.{Sight, Found, rows_now, shown_by, shown}
 use Rattle.cmd_tasks.specs.Attempts.{IsOneOf}
 use Rattle.cmd_tasks.specs.Searches.{stored}
 use Rattle.cmd_tasks.specs.Part.{part_of}
 use Rattle.cmd_tasks.specs.Served.{sights, IsServed}
 use Rattle.cmd_tasks.specs.declared.trace.Item.{Item}
+use Rattle.cmd_tasks.specs.declared.trace.Item.TheVariants.{Looked, Wrote, Lost, Faulted}
 
--- ---- a history of the program
+-- ---- told ids
 
--- an id that key bytes can tell from all others
+-- an id that key bytes can tell from all others, as each `DocId` is
 abbrev pub HasKey : Tree → Type 0
 HasKey id = IsId id × IsInRange id
 
--- rows in the order of their ids
-abbrev pub AreRows : Rows → Type 0
-AreRows r = (ascends r ≡ true) × Each (λ e. HasKey e.0) r
-
--- an entry that writes a document writes it under an id
-abbrev pub WritesKey : Entry → Type 0
-WritesKey (Changed by coll id change before tx) = HasKey id
-WritesKey entry = ⊤
-
--- the rows at the beginning are in order, and what is written has ids
-abbrev pub HasKeys : State → List Entry → Type 0
-HasKeys base H = Each (λ c. AreRows c.rows) base.collections × Each WritesKey H
+-- what the item shows, it shows under such ids
+abbrev pub IdsAreTold : Item → Type 0
+IdsAreTold (Looked at after up shown) = Each (λ e. HasKey e.0) shown.items
+IdsAreTold (Wrote at) = ⊤
+IdsAreTold (Lost at read found) = ⊤
+IdsAreTold (Faulted at before count) = ⊤
 
 -- ---- pages
 
@@ -68,10 +62,6 @@ views_of reply = []
 abbrev pub state_of : Reply → Option (List ℕ)
 state_of (Listed views state) = state
 state_of reply = None
-
--- the state that is read of this text
-abbrev pub Spells : List ℕ → PageState → Type 0
-Spells text s = (state_text s.given s.last ≡ text) × (s.given < 2 ^ 63) × HasKey s.last
 
 -- a page is asked for with the state that the page before it gave
 abbrev pub GoesOnWith : Option (List ℕ) → Option PageState → Type 0

@@ -1,6 +1,8 @@
 // Laws of tasks and sessions: each function does nothing, and its clauses are the laws.
-ghost use Rattle.std.specs.Prelude.{◌≡◌, ◌≢◌, ◌≤◌, ◌+◌, ℕ, ℤ, List, Option, length, slice_get, slice_set, [], ◌∷◌, ◌++◌, Some};
+ghost use Rattle.std.specs.Prelude.{◌≡◌, ◌≢◌, ◌≤◌, ◌+◌, ℕ, ℤ, List, Option, length, slice_get, slice_set, [], ◌∷◌, ◌++◌, Some, true};
+ghost use Rattle.std.specs.List.{AllByRecursion as Each};
 ghost use Rattle.std.specs.Option.{ForSome};
+ghost use Rattle.shred_cols.specs.Rows.{ascends};
 ghost use Rattle.col_keeper.specs.Tables.{Name};
 ghost use Rattle.reply_env.specs.declared.reply.Reply.{Reply as Answer};
 ghost use Rattle.reply_env.specs.declared.reply.Reply.TheVariants.{NoMemory};
@@ -13,7 +15,7 @@ ghost use Rattle.filter_tree.specs.Filters.{FilterTree};
 ghost use Rattle.cmd_grammar.specs.Commands.{CommandTree, Shows, command_tree};
 ghost use Rattle.cmd_tasks.specs.Served.{IsServed};
 ghost use Rattle.cmd_tasks.specs.Session.{Exchange, IsSession, IsAnswered, AreSessions, AreWithin, NoWork, Records};
-ghost use Rattle.cmd_tasks.specs.Joined.{Page, HasKeys, ArePages, ShowEachOnce};
+ghost use Rattle.cmd_tasks.specs.Joined.{Page, IdsAreTold, ArePages, ShowEachOnce};
 ghost use Rattle.cmd_tasks.specs.Stands.{StandsOn};
 ghost use Rattle.cmd_tasks.specs.declared.task.Task.{Task as Tasked};
 ghost use Rattle.cmd_tasks.specs.declared.trace.Item.{Item as Seen};
@@ -72,11 +74,13 @@ pub fn a_session_opens()
     ensures { (base : Base) (history : List Journaled) (k : ℕ) → base.sessions ≡ 0 → k ≡ opened_in history → IsJournal base (history ++ Opened k ∷ []) → IsSession base (history ++ Opened k ∷ []) k [] }
 {}
 
-/// A client that joins the pages of a find without a sort, each asked for with the state of the page before it, sees each
-/// document that matched throughout exactly once, in order of id, whatever others write meanwhile.
+/// A client that joins all pages of a find without a sort, a limit and `skip`, each asked for with the state of the page before
+/// it, sees documents in order of id, none twice, each as it matched at the look that showed it, and one of each id under which a
+/// document matched at all looks, whatever others write meanwhile. This holds where the rows of the base ascend, as a keeper's
+/// tables do, and the shown ids of the traces are ids within range, as each `DocId` is.
 pub fn pages_show_each_once()
     ensures { (base : Base) (history : List Journaled) (coll : Name) (f : FilterTree) (shows : Shows) (pages : List Page)
-        → HasKeys base history → ArePages base history coll f shows pages → ShowEachOnce base history coll f shows pages }
+        → Each (λ c. ascends c.rows ≡ true) base.collections → Each (λ p. Each IdsAreTold p.trace) pages → ArePages base history coll f shows pages → ShowEachOnce base history coll f shows pages }
 {
     page_states_are_one();
 }
