@@ -505,3 +505,36 @@ fn pages_and_sorts_over_many_documents(rt: HostRuntime) -> Result<(), Fail> {
     assert_eq!(rt; tales?.as_str(), TALES);
     Ok(())
 }
+
+// A sort over two looks, between which another session writes: the document of the first look is shown as it was found.
+const SEEN: [Race; 2] = [
+    (
+        r#"{"find":{"sort":{"n":1},"projection":{"n":1},"options":{"limit":2}}}"#,
+        1,
+        r#"looked 144 looked 145 {"data":{"documents":[{"_id":"a","n":-1},{"_id":"m105","n":0}],"nextPageState":null}}"#,
+    ),
+    (
+        r#"{"findOne":{"filter":{"_id":"a"},"projection":{"n":1}}}"#,
+        0,
+        r#"looked 147 {"data":{"document":{"_id":"a","n":0}}}"#,
+    ),
+];
+
+#[test]
+fn a_sort_shows_what_its_looks_found(rt: HostRuntime) -> Result<(), Fail> {
+    let alloc = rt.alloc();
+    let Some(mut store) = opened(alloc, 9_999, 0)? else {
+        panic!(rt; "not opened");
+    };
+    let least = r#"{"insertOne":{"document":{"_id":"a","n":-1}}}"#;
+    let wrong = match fill(alloc, &mut store) {
+        Ok(()) => match told(alloc, &mut store, "c", least) {
+            Ok(_) => first_lost(alloc, &mut store, &SEEN),
+            Err(fail) => Err(fail),
+        },
+        Err(fail) => Err(fail),
+    };
+    let _keeper = store.into_keeper();
+    assert_eq!(rt; wrong?, None);
+    Ok(())
+}
