@@ -22,7 +22,7 @@ use Rattle.reply_env.specs.declared.reply.Reply.TheVariants.{Listed}
 use Rattle.store_core.specs.State.{State}
 use Rattle.store_core.specs.declared.entry.Entry.{Entry}
 use Rattle.cmd_grammar.specs.Commands.{Shows, Paging, find}
-use Rattle.cmd_tasks.specs.Trace.{Sight, Found, rows_now, end_of, shown_by, shown, IsListing, IsListed}
+use Rattle.cmd_tasks.specs.Trace.{Sight, Found, end_of, shown_by, shown, IsListing, IsListed}
 use Rattle.cmd_tasks.specs.Attempts.{IsOneOf}
 use Rattle.cmd_tasks.specs.Searches.{stored}
 use Rattle.cmd_tasks.specs.Pages.{last_of}
