@@ -357,7 +357,30 @@ const RACES: [Race; 6] = [
     ),
 ];
 
-// A request, behind whose first looks another session writes, so many times.
+// A command, behind whose first looks another session writes, so many times.
+fn pressed(
+    alloc: Global,
+    store: &mut Store<MemKeeper>,
+    session: u64,
+    command: Command,
+    coll: CollName,
+    other: u64,
+    times: usize,
+) -> Result<Option<Served>, Fail>
+    requires known { (session < opened_in store.old.journal) × (other < opened_in store.old.journal) }
+    requires apart { session ≢ other }
+    requires asked { IsAskable (command_tree command) }
+{
+    contended(
+        alloc,
+        store,
+        Task::new(alloc, session, coll, 0, command),
+        other,
+        times,
+    )
+}
+
+// A request, behind whose first looks another session writes.
 fn contested(
     alloc: Global,
     store: &mut Store<MemKeeper>,
@@ -370,10 +393,7 @@ fn contested(
 {
     let coll = CollName::read(alloc, "c")?;
     match command_of(alloc, race.0)? {
-        Some(command) => {
-            let task = Task::new(alloc, session, coll, 0, command);
-            contended(alloc, store, task, other, race.1)
-        }
+        Some(command) => pressed(alloc, store, session, command, coll, other, race.1),
         None => Ok(None),
     }
 }
