@@ -263,6 +263,9 @@ impl Projection {
         ensures ok { IfOk result (λ v. tree v ≡ view self.now doc.now) }
         ensures err { IfErr result (λ e. e ≡ NoMemory) }
     {
+        if self.rules.is_empty() {
+            return Ok(doc.value().try_copy(alloc)?);
+        }
         let keeps = !includes(self.rules.as_slice());
         let rests = whole_rests(alloc, self.rules.as_slice())?;
         show_document(alloc, keeps, rests.as_slice(), doc.value())
