@@ -450,7 +450,7 @@ fn an_update_is_tried_four_times(rt: HostRuntime) -> Result<(), Fail> {
 
 // Documents m100, m101 and so on, the sixth of which has the least n.
 fn fill(alloc: Global, store: &mut Store<MemKeeper>) -> Result<(), Fail> {
-    for i in 100..170 {
+    for i in 100_u64..170 {
         let n = if i < 105 { 105 - i } else { i - 105 };
         let body = format!(in alloc;
             "{{\"insertOne\":{{\"document\":{{\"_id\":\"m{i}\",\"n\":{n}}}}}}}"
