@@ -116,16 +116,16 @@ fn answer<K: Keeper>(
 {
     store.journal_len();
     a_request_begins();
-    let command = match read_request(alloc, keyspace, request) {
-        Ok(command) => command,
-        Err(CommandFault::Refused { code, message }) => {
-            return refused(moment, alloc, code, message);
-        }
-        Err(CommandFault::NoMemory) => return unread(moment, alloc),
-    };
-    match collection_of(alloc, request) {
-        Some(coll) => perform(alloc, session, coll, moment, command, store),
-        None => unread(moment, alloc),
+    match read_request(alloc, keyspace, request) {
+        Ok(command) => match collection_of(alloc, request) {
+            Some(coll) => perform(alloc, session, coll, moment, command, store),
+            None => {
+                drop(command);
+                unread(moment, alloc)
+            }
+        },
+        Err(CommandFault::Refused { code, message }) => refused(moment, alloc, code, message),
+        Err(CommandFault::NoMemory) => unread(moment, alloc),
     }
 }
 

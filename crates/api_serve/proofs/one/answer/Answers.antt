@@ -16,19 +16,19 @@ returns-in-Some-clause-answers g c = record {
 }
 
 pub returns-in-None-clause-answers : goal.returns-in-None-clause-answers
-returns-in-None-clause-answers g c = let u = c.unread-in-None.ensures in record {
-  asking = is_unread;
-  asked = tt;
-  moment_is = search rules;
-  session_is = λ base told earlier was. c.a_request_begins.ensures base c.args.store.now.journal c.args.session earlier (exchange_of is_unread c.unread-in-None.result) u.trace (u.trace, u.reply) was;
-}
-
-pub returns-in-Err-NoMemory-clause-answers : goal.returns-in-Err-NoMemory-clause-answers
-returns-in-Err-NoMemory-clause-answers g c = let u = c.unread.ensures in record {
+returns-in-None-clause-answers g c = let u = c.unread.ensures in record {
   asking = is_unread;
   asked = tt;
   moment_is = search rules;
   session_is = λ base told earlier was. c.a_request_begins.ensures base c.args.store.now.journal c.args.session earlier (exchange_of is_unread c.unread.result) u.trace (u.trace, u.reply) was;
+}
+
+pub returns-in-Err-NoMemory-clause-answers : goal.returns-in-Err-NoMemory-clause-answers
+returns-in-Err-NoMemory-clause-answers g c = let u = c.unread-in-Err-NoMemory.ensures in record {
+  asking = is_unread;
+  asked = tt;
+  moment_is = search rules;
+  session_is = λ base told earlier was. c.a_request_begins.ensures base c.args.store.now.journal c.args.session earlier (exchange_of is_unread c.unread-in-Err-NoMemory.result) u.trace (u.trace, u.reply) was;
 }
 
 pub returns-in-Err-Refused-clause-answers : goal.returns-in-Err-Refused-clause-answers

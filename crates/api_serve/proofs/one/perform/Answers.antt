@@ -5,6 +5,9 @@ use Rattle.api_serve.proofs.Makes.{performed}
 use Rattle.api_serve.specs.declared.one.Answered.{Answered}
 use Rattle.api_serve.proofs.one.perform.Goals as goal
 
+pub serve-reply-requires-clause-begun : goal.serve-reply-requires-clause-begun
+serve-reply-requires-clause-begun g c = (c.new-task.ensures.empty, c.new-task.ensures.stands c.args.store.now.start c.args.store.now.journal)
+
 pub returns-clause-performs : goal.returns-clause-performs
 returns-clause-performs g c = let asked = c.new-task.ensures.asked in let answered : Answered = record { reply = c.serve-reply.result.reply; trace = c.serve-reply.result.trace } in record {
   moment_is = search rules;
