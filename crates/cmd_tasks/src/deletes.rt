@@ -19,7 +19,7 @@ use json_tree::{DocId, TreeFault};
 use reply_env::{Loss, Reply, no_collection, versions_spent};
 use shred_cols::Row;
 use std::alloc::Global;
-use store_core::{Change, Store, WriteOutcome, entries_tell_numbers};
+use store_core::{Change, Store, WriteOutcome, entries_tell_numbers, numbers_are_given_once};
 
 /// What a deletion makes of the rows that were searched for, of which it takes the first.
 fn picked(alloc: Global, deletion: Deletion, item: Item, rows: &[Row]) -> Moved
@@ -154,6 +154,7 @@ pub(crate) fn delete<K: Keeper>(
     ensures lawful { IsLawful store.new }
 {
     store.journal_len();
+    numbers_are_given_once();
     entries_tell_numbers();
     let Ok(ends) = ends_of(alloc, &id) else {
         return Moved::NoMemory;
