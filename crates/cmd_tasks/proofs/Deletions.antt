@@ -157,7 +157,7 @@ module _ (base : Base) (coll : Name) (k : ℕ) (moment : ℤ) (d : Deletion) (on
           accepted_is,
           few,
           subst (λ (z : List Sight). IsFound base coll k f sort 1 z (λ xs. (xs ≡ []) × (◌≡◌ {A = Reply} (reply.Deleted 0) (reply.Deleted 0))) (reply.Deleted 0)) (sym round_is)
-              (listed, inr (sortable, none, refl)),
+              (listed, inr (sortable, (none, refl))),
         )),
       )
 

@@ -70,7 +70,7 @@ pub some_number : (o : Option Version) (tx : ℕ) → option_map (λ (v : Versio
 some_number None tx e = cc
 some_number (Some v) tx e = (v, refl, same_some v.tx tx e)
 
-mark_stops : (base : Base) (coll : Name) (k : ℕ) (P : Option Tree → Option Tree → Type 0) (W : Type 0) (H H' : List Entry) (at : ℕ) (after up : Option Tree) (i : Item) (error : ErrorItem) → H' ≡ H → at ≡ length H → IsLooked i at after up [] → P after up → W
+pub mark_stops : (base : Base) (coll : Name) (k : ℕ) (P : Option Tree → Option Tree → Type 0) (W : Type 0) (H H' : List Entry) (at : ℕ) (after up : Option Tree) (i : Item) (error : ErrorItem) → H' ≡ H → at ≡ length H → IsLooked i at after up [] → P after up → W
     → IsNoWrite coll (replay base H) error → Stops base coll k P W i (sight H' i) error
 mark_stops base coll k P W H H' at after up (Looked a from to pairs) error same here is marks writes cause =
     let past : take a H' ≡ H = saw H H' a same (is.0 ∙ here) in
