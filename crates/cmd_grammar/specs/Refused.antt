@@ -1,8 +1,8 @@
 -- The first refusal of a request that its place and the value of its body show.
 use Rattle.std.specs.Prelude.{◌≡◌, ℕ, List, [], ◌∷◌, Option, Some, None, ◌⊎◌, option_and_then, if◌then◌else◌, codes}
 use Rattle.std.specs.Str.{bytes_eq}
-use Rattle.std.specs.Option.{option_map, option_or}
-use Rattle.json_tree.specs.Tree.{Tree, object, Members, no_members, member, list_of_members}
+use Rattle.std.specs.Option.{option_map}
+use Rattle.json_tree.specs.Tree.{Tree, object, no_members, member, list_of_members}
 use Rattle.doc_paths.specs.Name.{is_collection_name}
 use Rattle.filter_tree.specs.Faults.{first_fault}
 use Rattle.filter_tree.specs.declared.fault.FilterFault.{FilterFault}
@@ -117,7 +117,8 @@ refused keyspace place value =
     ∷ option_and_then command_refusal (command_at place.collection value)
     ∷ [])
 
--- this is the first refusal: that the text of a page state spells none is tested last
+-- This is the first refusal. That the text of a page state spells none is tested last: a command with a page state has no
+-- document.
 abbrev pub IsFirst : Option ErrorItem → Option (List ℕ) → ErrorItem → Type 0
 IsFirst refusal page error = (refusal ≡ Some error) ⊎ ((refusal ≡ None) × IsNoPage page × (error ≡ bad_page_state))
 
