@@ -7,6 +7,7 @@ mod Lasts
 mod Fresh
 mod PageStates
 mod Glances
+mod Shorts
 mod Keeping
 mod Searching
 mod Requests
@@ -20,3 +21,4 @@ pub mod Lookback
 pub mod Rounds
 pub mod Tries
 pub mod Contests
+mod Deletions

@@ -14,5 +14,6 @@ pub mod Wanted
 pub mod Looking
 pub mod Finding
 pub mod Searching
+pub mod Deleting
 pub mod Moves
 pub mod Stands

@@ -1,10 +1,10 @@
 // The steps of a deletion: a search for the first match, and then an attempt on it.
 ghost use Rattle.std.specs.Prelude.{◌≡◌, ◌+◌, ◌<◌, ◌≤◌, Some, IfOk};
-ghost use Rattle.json_tree.specs.Id.{IsId};
 ghost use Rattle.col_keeper.specs.Tables.{IsShort};
 ghost use Rattle.store_core.specs.Counts.{opened_in};
 ghost use Rattle.store_core.specs.Store.{IsLawful, SameBase};
 ghost use Rattle.store_core.specs.Growth.{Grows};
+ghost use Rattle.cmd_tasks.specs.Looking.{AreShort};
 ghost use Rattle.cmd_tasks.specs.Moves.{Steps, Promises};
 ghost use Rattle.cmd_tasks.specs.Deleting.{IsDeletion, Picks, LosesDeletion};
 
@@ -13,19 +13,18 @@ use crate::steps::{failed, marked};
 use crate::trace::Item;
 use crate::updates::{MOST, conflict, with_loss};
 use crate::work::{Deletion, Moved, Progress, Searched, State};
-use col_keeper::{Keeper, limits_bound_ids};
+use col_keeper::Keeper;
 use doc_paths::CollName;
 use json_tree::{DocId, TreeFault};
 use reply_env::{Loss, Reply, no_collection, versions_spent};
 use shred_cols::Row;
 use std::alloc::Global;
-use store_core::{Change, Store, WriteOutcome, entries_tell_numbers};
+use store_core::{Change, Store, WriteOutcome, entries_tell_numbers, numbers_are_given_once};
 
 /// What a deletion makes of the rows that were searched for, of which it takes the first.
 fn picked(alloc: Global, deletion: Deletion, item: Item, rows: &[Row]) -> Moved
     ensures { Picks deletion item rows.now result }
 {
-    limits_bound_ids();
     let row = match rows.first() {
         Some(row) => row,
         None => {
@@ -63,6 +62,7 @@ pub(crate) fn seek<K: Keeper>(
     requires known { by < opened_in store.old.journal }
     requires deletion { IsDeletion deletion }
     requires few { progress.shown < 10001 }
+    requires short { AreShort progress.kept.items }
     ensures steps { Steps by (K.failed store.old.keeper) (K.failed store.new.keeper) (State.Seeking deletion progress) store.old.journal store.new.journal result }
     ensures leads { Promises store.old.start coll.now by store.old.journal store.new.journal (State.Seeking deletion progress) result }
     ensures base { SameBase store.old store.new }
@@ -154,6 +154,7 @@ pub(crate) fn delete<K: Keeper>(
     ensures lawful { IsLawful store.new }
 {
     store.journal_len();
+    numbers_are_given_once();
     entries_tell_numbers();
     let Ok(ends) = ends_of(alloc, &id) else {
         return Moved::NoMemory;

@@ -5,7 +5,7 @@ ghost use Rattle.json_tree.specs.View.{tree};
 ghost use Rattle.json_text.specs.Print.{escaped, string_text, text_of};
 ghost use Rattle.name_tables.specs.Code.{code_text};
 ghost use Rattle.reply_env.specs.Messages.{out_of_memory};
-ghost use Rattle.reply_env.specs.Reply.{with_commas, view_text, state_text as page_text, listed_text, more_text, inserted_text, updated_text, next_text, updated_page_text, deleted_text, error_text, errors_text, so_far_text, status_text, reply_text};
+ghost use Rattle.reply_env.specs.Reply.{with_commas, view_text, state_text as page_text, listed_text, more_text, inserted_text, updated_text, next_text, updated_page_text, deleted_text, deleted_page_text, error_text, errors_text, so_far_text, status_text, reply_text};
 
 use crate::fault::ReplyFault;
 use crate::fixed::no_memory_reply;
@@ -134,7 +134,7 @@ fn print_updated(matched: u64, modified: u64, out: &mut Vec<u8>) -> Result<(), A
 }
 
 fn print_deleted(deleted: u64, out: &mut Vec<u8>) -> Result<(), AllocError>
-    ensures { OnOk result (out.new.items ≡ out.old.items ++ (codes "{\"deletedCount\":" ++ decimal deleted ++ codes "}")) }
+    ensures { OnOk result (out.new.items ≡ out.old.items ++ deleted_text deleted) }
 {
     out.extend_from_slice(b"{\"deletedCount\":")?;
     print_decimal(deleted, out)?;
@@ -319,7 +319,7 @@ fn print_update_of_many(
 }
 
 fn print_deleted_page(deleted: u64, more: bool, out: &mut Vec<u8>) -> Result<(), AllocError>
-    ensures { OnOk result (out.new.items ≡ out.old.items ++ deleted_text deleted more) }
+    ensures { OnOk result (out.new.items ≡ out.old.items ++ deleted_page_text deleted more) }
 {
     out.extend_from_slice(b"{\"deletedCount\":")?;
     print_decimal(deleted, out)?;
@@ -328,8 +328,17 @@ fn print_deleted_page(deleted: u64, more: bool, out: &mut Vec<u8>) -> Result<(),
     Ok(())
 }
 
-fn print_deletion(deleted: u64, more: bool, out: &mut Vec<u8>) -> Result<(), AllocError>
-    ensures { OnOk result (out.new.items ≡ out.old.items ++ (codes "{\"status\":" ++ deleted_text deleted more ++ codes "}")) }
+fn print_deletion(deleted: u64, out: &mut Vec<u8>) -> Result<(), AllocError>
+    ensures { OnOk result (out.new.items ≡ out.old.items ++ (codes "{\"status\":" ++ deleted_text deleted ++ codes "}")) }
+{
+    out.extend_from_slice(b"{\"status\":")?;
+    print_deleted(deleted, out)?;
+    out.push(b'}')?;
+    Ok(())
+}
+
+fn print_deletion_of_many(deleted: u64, more: bool, out: &mut Vec<u8>) -> Result<(), AllocError>
+    ensures { OnOk result (out.new.items ≡ out.old.items ++ (codes "{\"status\":" ++ deleted_page_text deleted more ++ codes "}")) }
 {
     out.extend_from_slice(b"{\"status\":")?;
     print_deleted_page(deleted, more, out)?;
@@ -369,8 +378,8 @@ fn print_behind(reply: &Reply, out: &mut Vec<u8>) -> Result<(), AllocError>
             modified,
             state,
         } => print_update_of_many(*matched, *modified, state, out),
-        Reply::Deleted { deleted } => print_deletion(*deleted, false, out),
-        Reply::DeletedMany { deleted, more } => print_deletion(*deleted, *more, out),
+        Reply::Deleted { deleted } => print_deletion(*deleted, out),
+        Reply::DeletedMany { deleted, more } => print_deletion_of_many(*deleted, *more, out),
         Reply::Refused { errors, so_far } => print_refused(errors.as_slice(), so_far, out),
         Reply::NoMemory { accepted } => print_no_memory(*accepted, out),
     }
