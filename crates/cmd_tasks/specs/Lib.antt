@@ -15,5 +15,6 @@ pub mod Looking
 pub mod Finding
 pub mod Searching
 pub mod Deleting
+pub mod Many
 pub mod Moves
 pub mod Stands

@@ -5,7 +5,7 @@ ghost use Rattle.filter_tree.specs.View.{filter_tree};
 ghost use Rattle.cmd_grammar.specs.Commands.{IsAskableFilter, IsAskablePage, IsAskablePaging, Paging, find_one, find, update_one, update_many, delete_one, delete_many};
 ghost use Rattle.cmd_tasks.specs.Part.{given_of, from_of, most_of};
 ghost use Rattle.cmd_tasks.specs.Moves.{Begins};
-ghost use Rattle.cmd_tasks.specs.Steps.{IsStart};
+ghost use Rattle.cmd_tasks.specs.Many.{IsStart};
 
 use crate::work::{Deletion, Doing, Many, Part, Progress, Search, Stand, State, Updating, Wanted};
 use filter_tree::Filter;

@@ -1,9 +1,9 @@
 // The steps of a command that takes many documents: a page, an attempt on one of them, or a look at one alone.
-ghost use Rattle.std.specs.Prelude.{◌≡◌, ◌+◌, ◌<◌, ◌≤◌, Some, IfOk};
+ghost use Rattle.std.specs.Prelude.{◌+◌, ◌<◌, ◌≤◌, Some};
 ghost use Rattle.store_core.specs.Counts.{opened_in};
 ghost use Rattle.store_core.specs.Store.{IsLawful, SameBase, AtState};
 ghost use Rattle.store_core.specs.Growth.{Grows};
-ghost use Rattle.cmd_tasks.specs.Moves.{Steps, Promises, Fits};
+ghost use Rattle.cmd_tasks.specs.Moves.{Steps, Promises, IsReady, Fits};
 
 use crate::deletes::{Ends, ends_of};
 use crate::glance::glance;
@@ -55,7 +55,17 @@ pub(crate) fn list_more<K: Keeper>(
     coll: &CollName,
     many: Many,
     stand: Stand,
-) -> Moved {
+) -> Moved
+    requires known { by < opened_in store.old.journal }
+    requires ready { IsReady (State.Paging many stand) }
+    ensures steps { Steps by (K.failed store.old.keeper) (K.failed store.new.keeper) (State.Paging many stand) store.old.journal store.new.journal result }
+    ensures leads { Promises store.old.start coll.now by store.old.journal store.new.journal (State.Paging many stand) result }
+    ensures base { SameBase store.old store.new }
+    ensures grows { Grows (Some by) store.old.journal store.new.journal }
+    ensures faults { K.failed store.old.keeper ≤ K.failed store.new.keeper }
+    ensures work { K.called store.new.keeper ≤ K.called store.old.keeper + 1 }
+    ensures lawful { IsLawful store.new }
+{
     match glance(alloc, store, by, coll, &many.wanted, &stand.from) {
         Glance::Shown { item, rows, last } => go_on(alloc, item, many, listed(stand, rows, last)),
         Glance::Ended { item, reply } => Moved::Ends {
@@ -126,7 +136,18 @@ pub(crate) fn try_one<K: Keeper>(
     many: Many,
     stand: Stand,
     attempt: Attempt,
-) -> Moved {
+) -> Moved
+    requires known { by < opened_in store.old.journal }
+    requires ready { IsReady (State.Trying many stand attempt) }
+    requires fits { AtState store.old (λ s. Fits s coll.now (State.Trying many stand attempt)) }
+    ensures steps { Steps by (K.failed store.old.keeper) (K.failed store.new.keeper) (State.Trying many stand attempt) store.old.journal store.new.journal result }
+    ensures leads { Promises store.old.start coll.now by store.old.journal store.new.journal (State.Trying many stand attempt) result }
+    ensures base { SameBase store.old store.new }
+    ensures grows { Grows (Some by) store.old.journal store.new.journal }
+    ensures faults { K.failed store.old.keeper ≤ K.failed store.new.keeper }
+    ensures work { K.called store.new.keeper ≤ K.called store.old.keeper + 1 }
+    ensures lawful { IsLawful store.new }
+{
     let Attempt { id, read, change } = attempt;
     let Ok(ends) = ends_of(alloc, &id) else {
         return Moved::NoMemory;
@@ -219,7 +240,17 @@ pub(crate) fn look_again<K: Keeper>(
     many: Many,
     stand: Stand,
     id: DocId,
-) -> Moved {
+) -> Moved
+    requires known { by < opened_in store.old.journal }
+    requires ready { IsReady (State.Retrying many stand id) }
+    ensures steps { Steps by (K.failed store.old.keeper) (K.failed store.new.keeper) (State.Retrying many stand id) store.old.journal store.new.journal result }
+    ensures leads { Promises store.old.start coll.now by store.old.journal store.new.journal (State.Retrying many stand id) result }
+    ensures base { SameBase store.old store.new }
+    ensures grows { Grows (Some by) store.old.journal store.new.journal }
+    ensures faults { K.failed store.old.keeper ≤ K.failed store.new.keeper }
+    ensures work { K.called store.new.keeper ≤ K.called store.old.keeper + 1 }
+    ensures lawful { IsLawful store.new }
+{
     if many.wanted.plan.is_none() {
         return Moved::NoMemory;
     }

@@ -1,7 +1,4 @@
 // Many documents: what is taken next, and the reply where nothing is.
-ghost use Rattle.std.specs.Prelude.{◌≡◌, ◌≢◌, ◌+◌, ◌<◌, ◌≤◌, IfOk, IfSome};
-ghost use Rattle.cmd_tasks.specs.Turns.{so_far_of};
-ghost use Rattle.cmd_tasks.specs.Steps.{IsStand, IsMany};
 
 use crate::trace::Item;
 use crate::updates::declined;

@@ -8,7 +8,7 @@ ghost use Rattle.store_core.specs.Growth.{Grows};
 ghost use Rattle.store_core.specs.declared.entry.Entry.{Entry as Journaled};
 ghost use Rattle.cmd_grammar.specs.Commands.{command_tree, IsAskable};
 ghost use Rattle.cmd_tasks.specs.Served.{IsServed};
-ghost use Rattle.cmd_tasks.specs.Moves.{Steps, Promises, IsReady, Begins, Fits, left};
+ghost use Rattle.cmd_tasks.specs.Moves.{Steps, Promises, IsReady, Begins, Fits, left, accepted_by};
 ghost use Rattle.cmd_tasks.specs.Stands.{StandsOn, IsSame, Adds, IfDone};
 
 use crate::begin::{
