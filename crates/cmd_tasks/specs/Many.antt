@@ -7,6 +7,7 @@ use Rattle.json_tree.specs.Tree.{Tree}
 use Rattle.json_tree.specs.Id.{id_cmp}
 use Rattle.shred_cols.specs.Row.{Version}
 use Rattle.col_keeper.specs.Tables.{Name, IsShort}
+use Rattle.filter_tree.specs.Filters.{FilterTree}
 use Rattle.filter_tree.specs.View.{filter_tree}
 use Rattle.view_sort.specs.declared.page.PageState.{PageState}
 use Rattle.store_core.specs.State.{State as Base, version}
@@ -34,8 +35,12 @@ doing_of (d.Updates u moment) = updates u moment
 doing_of d.Deletes = deletes
 
 -- the command that many are taken for
+abbrev pub taking_for : FilterTree → Option PageState → declared_doing.Doing → CommandTree
+taking_for f page (d.Updates u moment) = update_many f u page
+taking_for f page d.Deletes = delete_many f
+
 abbrev pub taking : declared_many.Many → CommandTree
-taking many = elim many.doing as (λ _. CommandTree) [ d.Updates u moment ↦ update_many (filter_tree many.wanted.filter) u many.page.value | d.Deletes ↦ delete_many (filter_tree many.wanted.filter) ]
+taking many = taking_for (filter_tree many.wanted.filter) many.page.value many.doing
 
 -- a deletion has no page
 abbrev pub MayPage : declared_doing.Doing → Option PageState → Type 0

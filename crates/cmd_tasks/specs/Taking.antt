@@ -48,7 +48,7 @@ is_unchanged (Ok change) = is_none change
 is_unchanged (Err fault) = false
 
 -- unchanged documents are counted without a write, as long as fewer than 20 are counted
-unfoldable pub settled : Doing → List Shown → Standing → Standing
+abbrev pub settled : Doing → List Shown → Standing → Standing
 settled doing [] st = record st { queue = [] }
 settled doing (s ∷ rest) st = if nat_lt st.matched 20 && is_unchanged (change_of doing s.x.doc) then settled doing rest (count s.x 0 rest st) else record st { queue = s ∷ rest }
 
