@@ -1,5 +1,5 @@
 -- The numbers of a command are under their bound.
-use Rattle.std.proofs.Common.{◌≡◌, lit<, ◌<◌, ◌^◌, ◌/◌, ◌%◌, ◌==◌, ℕ, pos, negsuc, Bool, true, false, ◌&&◌, List, Option, Some, None, refl, codes, arith, if◌then◌else◌}
+use Rattle.std.proofs.Common.{◌≡◌, lit<, ◌<◌, ◌^◌, ◌/◌, ◌%◌, ◌==◌, ℕ, pos, negsuc, Bool, true, false, ◌&&◌, List, Option, Some, None, refl, arith, if◌then◌else◌}
 use Rattle.std.specs.Prelude.{nat_lt}
 use Rattle.std.specs.Option.{option_and_then, unwrap_or}
 use Rattle.json_tree.specs.Tree.{Tree, null, boolean, number, text, date, list, object}

@@ -4,9 +4,7 @@ use Rattle.std.specs.Prelude.{Result, Ok, Err, IfOk, OnOk}
 use Rattle.std.specs.Option.{option_map, option_and_then, unwrap_or, IfSome}
 use Rattle.std.specs.Str.{bytes_eq}
 use Rattle.std.proofs.lemmas.Slice.Eq.{bytes_eq-Decides}
-use Rattle.json_tree.specs.Tree.{Tree, null, boolean, number, text, date, list, object, Members, no_members, member, list_of_members}
-use Rattle.json_tree.specs.Members.{member_at}
-use Rattle.json_tree.specs.View.{tree}
+use Rattle.json_tree.specs.Tree.{Tree, null, boolean, number, text, date, list, object, no_members, member}
 use Rattle.doc_paths.specs.Name.{is_collection_name}
 use Rattle.filter_tree.specs.View.{filter_tree}
 use Rattle.view_sort.specs.declared.page.PageState.{PageState}
@@ -32,7 +30,6 @@ use Rattle.cmd_grammar.specs.Answers.{Passes, Refuses, Answers}
 use Rattle.cmd_grammar.specs.declared.name.Name.{Name}
 use Rattle.cmd_grammar.specs.declared.name.Name.TheVariants.{InsertOne, FindOne, Find, CountDocuments, UpdateOne}
 use Rattle.cmd_grammar.specs.declared.command.Command.{Command}
-use Rattle.cmd_grammar.specs.declared.command.Command.TheVariants as commands
 use Rattle.cmd_grammar.specs.declared.fault.CommandFault.{CommandFault}
 use Rattle.cmd_grammar.specs.declared.fault.CommandFault.TheVariants.{Refused, NoMemory}
 use Rattle.cmd_grammar.proofs.Order.{neither_fires}

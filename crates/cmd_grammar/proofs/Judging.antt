@@ -1,17 +1,16 @@
 -- The tests of a request, joined.
-use Rattle.std.proofs.Common.{◌≡◌, ◌≤◌, ℕ, List, [], ◌∷◌, Option, Some, None, refl, ap, sym, ◌∙◌, subst, codes, Bool, true, false, ◌&&◌, IsTrue, if◌then◌else◌}
+use Rattle.std.proofs.Common.{◌≡◌, ◌≤◌, ℕ, List, [], ◌∷◌, Option, Some, None, refl, ap, sym, ◌∙◌, subst, codes, true, ◌&&◌, if◌then◌else◌}
 use Rattle.std.specs.Option.{option_map, option_and_then, option_or, unwrap_or, is_none, IfSome}
-use Rattle.json_tree.specs.Tree.{Tree, null, boolean, number, text, date, list, object, Members, no_members, member, list_of_members}
+use Rattle.json_tree.specs.Tree.{Tree, null, boolean, number, text, date, list, object, no_members, member, list_of_members}
 use Rattle.json_tree.specs.Members.{member_at}
 use Rattle.json_tree.specs.Writable.{IsWritable}
-use Rattle.doc_paths.specs.Name.{is_collection_name}
 use Rattle.reply_env.specs.Messages.{no_command, bad_field}
 use Rattle.reply_env.specs.declared.reply.ErrorItem.{ErrorItem}
 use Rattle.reply_env.specs.declared.request.Place.{Place}
 use Rattle.cmd_grammar.specs.First.{first_of, first_by}
-use Rattle.cmd_grammar.specs.Names.{command_named, command_text, named_among}
+use Rattle.cmd_grammar.specs.Names.{command_named}
 use Rattle.cmd_grammar.specs.Rows.{row}
-use Rattle.cmd_grammar.specs.Fields.{member_refusal, missing_refusal, members_refusal, paging_refusal}
+use Rattle.cmd_grammar.specs.Fields.{member_refusal, missing_refusal, paging_refusal}
 use Rattle.cmd_grammar.specs.Documents.{document_refusal}
 use Rattle.cmd_grammar.specs.Commands.{IsStorable}
 use Rattle.cmd_grammar.specs.Parts.{member_in, skip_of, page_text}
@@ -26,7 +25,6 @@ use Rattle.cmd_grammar.specs.declared.name.Name.{Name}
 use Rattle.cmd_grammar.specs.declared.name.Name.TheVariants.{InsertOne, FindOne, Find, CountDocuments, UpdateOne}
 use Rattle.cmd_grammar.specs.declared.fault.CommandFault.{CommandFault}
 use Rattle.cmd_grammar.proofs.Order.{neither_fires, goes_on, refuses_first, refuses_before, fires, decides}
-use Rattle.cmd_grammar.proofs.Table.{named_text}
 
 -- ---- a command's value
 

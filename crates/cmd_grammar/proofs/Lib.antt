@@ -2,6 +2,7 @@ pub mod Bounds
 pub mod Insertions
 pub mod Inside
 pub mod Judging
+pub mod OneAnswer
 pub mod Order
 pub mod Page
 pub mod Part

@@ -1,5 +1,5 @@
 -- The page state of a command.
-use Rattle.std.proofs.Common.{◌≡◌, ◌≢◌, ◌<◌, ◌^◌, inl, inr, ℕ, List, [], Option, Some, None, refl, ap, sym, subst, length}
+use Rattle.std.proofs.Common.{◌≡◌, ◌≢◌, ◌<◌, ◌^◌, inl, inr, ℕ, List, Option, Some, None, refl, sym, subst}
 use Rattle.std.specs.Prelude.{Ok}
 use Rattle.json_tree.specs.Tree.{Tree}
 use Rattle.json_tree.specs.Id.{IsId, IsInRange}
@@ -8,8 +8,7 @@ use Rattle.view_sort.specs.declared.page.PageState.{PageState}
 use Rattle.view_sort.specs.declared.fault.ViewFault.{ViewFault}
 use Rattle.view_sort.specs.declared.fault.ViewFault.TheVariants as faults
 use Rattle.reply_env.specs.Messages.{bad_page_state}
-use Rattle.reply_env.specs.declared.reply.ErrorItem.{ErrorItem}
-use Rattle.cmd_grammar.specs.Parts.{IsPage, IsNoPage}
+use Rattle.cmd_grammar.specs.Parts.{IsPage}
 use Rattle.cmd_grammar.specs.Refused.{view_error}
 use Rattle.cmd_grammar.specs.Answers.{Refuses, RefusesFirst, PassesAll}
 use Rattle.cmd_grammar.specs.declared.fault.CommandFault.{CommandFault}

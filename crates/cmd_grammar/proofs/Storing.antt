@@ -1,5 +1,5 @@
 -- The tests of a document, joined.
-use Rattle.std.proofs.Common.{◌≡◌, ℕ, List, [], ◌∷◌, Option, Some, None, MatchOption, refl, sym, ap, ◌∙◌, subst, false}
+use Rattle.std.proofs.Common.{◌≡◌, [], ◌∷◌, Option, Some, None, MatchOption, refl, sym, ◌∙◌, subst, false}
 use Rattle.std.specs.Prelude.{Result, Ok, Err, ⊤}
 use Rattle.std.specs.Option.{option_or}
 use Rattle.json_tree.specs.Tree.{Tree, null, boolean, number, text, date, list, object}

@@ -5,7 +5,6 @@ use Rattle.std.specs.Option.{option_map, option_and_then, unwrap_or}
 use Rattle.json_tree.specs.Tree.{Tree, object, no_members}
 use Rattle.update_ops.specs.Clauses.{Clause}
 use Rattle.update_ops.specs.Faults.{first_fault, updates_in}
-use Rattle.update_ops.specs.declared.update.Updates.{Updates}
 use Rattle.update_ops.specs.declared.fault.UpdateFault.{UpdateFault}
 use Rattle.update_ops.specs.declared.fault.UpdateFault.TheVariants as faults
 use Rattle.cmd_grammar.specs.Refused.{update_error, update_refusal}

@@ -1,7 +1,7 @@
 -- What may be wrong with a document that is to be inserted.
 use Rattle.std.specs.Prelude.{ℕ, List, [], ◌∷◌, Option, Some, None}
 use Rattle.std.specs.Option.{option_map}
-use Rattle.json_tree.specs.Tree.{Tree, null, boolean, number, text, date, list, object}
+use Rattle.json_tree.specs.Tree.{Tree, text, list, object}
 use Rattle.json_tree.specs.Doc.{id_in}
 use Rattle.doc_limits.specs.Names.{first_bad_name}
 use Rattle.doc_limits.specs.Limits.{broken}

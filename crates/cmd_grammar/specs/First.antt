@@ -1,5 +1,5 @@
 -- The first of several tests that fires.
-use Rattle.std.specs.Prelude.{List, [], ◌∷◌, Option, Some, None, map}
+use Rattle.std.specs.Prelude.{List, [], ◌∷◌, Option, None}
 use Rattle.std.specs.Option.{option_or}
 
 -- a test is an error, or none; the first error decides

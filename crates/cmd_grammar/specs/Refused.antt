@@ -1,8 +1,8 @@
 -- The first refusal of a request that its place and the value of its body show.
 use Rattle.std.specs.Prelude.{◌≡◌, ℕ, List, [], ◌∷◌, Option, Some, None, ◌⊎◌, option_and_then, if◌then◌else◌, codes}
 use Rattle.std.specs.Str.{bytes_eq}
-use Rattle.std.specs.Option.{option_map, option_or}
-use Rattle.json_tree.specs.Tree.{Tree, object, Members, no_members, member, list_of_members}
+use Rattle.std.specs.Option.{option_map}
+use Rattle.json_tree.specs.Tree.{Tree, object, no_members, member, list_of_members}
 use Rattle.doc_paths.specs.Name.{is_collection_name}
 use Rattle.filter_tree.specs.Faults.{first_fault}
 use Rattle.filter_tree.specs.declared.fault.FilterFault.{FilterFault}

@@ -1,5 +1,5 @@
 -- Requests: what the bytes of the body and the place show.
-use Rattle.std.specs.Prelude.{◌≡◌, ◌≢◌, ℕ, List, Option, Some, None, Result, Ok, Err, ⊤, ◌⊎◌}
+use Rattle.std.specs.Prelude.{◌≡◌, ◌≢◌, ℕ, List, None, Result, Ok, Err, ⊤, ◌⊎◌}
 use Rattle.json_tree.specs.Tree.{Tree}
 use Rattle.json_text.specs.Grammar.{Reads}
 use Rattle.json_text.specs.Fault.{IsFault}

@@ -8,7 +8,9 @@ use view_sort::{PageState, Projection, Sort};
 #[derive(Drop)]
 pub enum Command {
     /// To insert a document, which has an id.
-    InsertOne { document: Value },
+    InsertOne {
+        document: Value,
+    },
     /// The first document that matches, in the order of the sort.
     FindOne {
         filter: Filter,
@@ -26,7 +28,9 @@ pub enum Command {
         page: Option<PageState>,
     },
     /// How many documents match.
-    CountDocuments { filter: Filter },
+    CountDocuments {
+        filter: Filter,
+    },
     /// To update the first document that matches, in the order of the sort.
     UpdateOne {
         filter: Filter,

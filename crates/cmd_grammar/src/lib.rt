@@ -7,6 +7,7 @@ mod documents;
 mod fault;
 mod fields;
 mod filters;
+mod laws;
 mod members;
 mod name;
 mod numbers;
@@ -19,6 +20,7 @@ mod views;
 
 pub use command::Command;
 pub use fault::CommandFault;
+pub use laws::answers_are_one;
 pub use reading::{read_command, read_request, take_command};
 pub use updates::update_error;
 

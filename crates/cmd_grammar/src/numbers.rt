@@ -8,6 +8,7 @@ use crate::members::option;
 use json_tree::{Num, Value};
 
 const UNIT: u128 = 1_000_000_000_000_000_000;
+
 const BOUND: u128 = 1 << 31;
 
 fn whole_of(n: &Num) -> Option<u64>

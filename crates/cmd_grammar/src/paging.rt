@@ -13,6 +13,7 @@ use reply_env::{bad_option, command_limit};
 use std::alloc::Global;
 
 const MOST_SKIPPED: u64 = 480;
+
 const MOST_PATHS: usize = 8;
 
 // How many paths the sort has, whether they can be read or not.

@@ -1,4 +1,6 @@
 // Requests and what they are read as, or refused by, worked out by hand.
+mod asked;
+mod paging;
 mod rows;
 
 use super::*;
@@ -159,8 +161,10 @@ fn row_holds(alloc: Global, row: &str) -> Result<bool, Fail> {
 #[test]
 fn requests_are_read_or_refused(rt: HostRuntime) -> Result<(), Fail> {
     let alloc = rt.alloc();
-    for row in rows::ROWS.split('\n') {
-        assert!(rt; row_holds(alloc, row)?, "{row}");
+    for rows in [rows::ROWS, paging::ROWS] {
+        for row in rows.split('\n') {
+            assert!(rt; row_holds(alloc, row)?, "{row}");
+        }
     }
     Ok(())
 }

@@ -4,13 +4,19 @@ mod Schedules
 mod Listing
 mod Ranks
 mod Lasts
+mod Fresh
+mod PageStates
 mod Glances
 mod Keeping
 mod Searching
 mod Requests
+mod Selecting
+mod Beginnings
 mod Standing
 mod Running
 mod Opening
 pub mod Attempts
+pub mod Lookback
 pub mod Rounds
+pub mod Tries
 pub mod Contests

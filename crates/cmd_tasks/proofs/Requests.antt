@@ -1,6 +1,6 @@
 -- How each command goes on, or is answered.
 use Rattle.std.proofs.Common.{◌≡◌, ◌≢◌, ℕ, ℤ, ◌+◌, ◌<◌, ◌≤◌, List, [], ◌∷◌, ◌++◌, map, take, length, true, false, ◌-◌, ◌^◌, Option, Some, None, refl, sym, ap, ◌∙◌, subst, arith, inl, inr, length-append, Vec, Global, leb, ◌⊎◌, ⊎_elim}
-use Rattle.std.specs.Prelude.{nat_le, if◌then◌else◌, IfSome, slice_get}
+use Rattle.std.specs.Prelude.{⊤, nat_le, if◌then◌else◌, IfSome, slice_get}
 use Rattle.std.specs.Option.{option_map}
 use Rattle.std.proofs.lemmas.List.{length-map}
 use Rattle.std.proofs.lemmas.Bool.{leb-true}
@@ -24,17 +24,21 @@ use Rattle.store_core.specs.Journal.{replay}
 use Rattle.store_core.specs.declared.entry.Entry.{Entry}
 use Rattle.store_core.specs.declared.entry.Entry.TheVariants.{Changed, Failed}
 use Rattle.store_core.specs.declared.entry.Change.TheVariants.{Insert}
-use Rattle.cmd_grammar.specs.Commands.{CommandTree, insert_one, find_one, count_documents, update_one}
-use Rattle.cmd_tasks.specs.Trace.{Sight, sight, shown, shown_by, IsLook, GoesOn, Looks}
-use Rattle.cmd_tasks.specs.Served.{IsPartOf, Serves, Stops, IsStopped, Marks, IsToWrite, IsInserted, IsTaken, TellsInserted, TellsFound, counted, accepted, one_if_wrote}
+use Rattle.store_core.specs.declared.outcome.WriteOutcome.{WriteOutcome}
+use Rattle.store_core.specs.declared.outcome.WriteOutcome.TheVariants as w
+use Rattle.view_sort.specs.Sort.{SortKeys}
+use Rattle.cmd_grammar.specs.Commands.{CommandTree, Shows, Paging, insert_one, find_one, find, count_documents, update_one}
+use Rattle.cmd_tasks.specs.Trace.{Sight, sight, now, shown, shown_by, IsLook, Looks}
+use Rattle.cmd_tasks.specs.Served.{IsPartOf, Serves, Stops, Marks, IsToWrite, IsMarked, IsInserted, IsTaken, TellsInserted, counted, accepted, one_if_wrote}
 use Rattle.cmd_tasks.specs.Pages.{found_row}
 use Rattle.cmd_tasks.specs.Wanted.{IsWanted}
-use Rattle.cmd_tasks.specs.Moves.{Made, GoesUp, Glances, Steps, Sees, StopsSo, Leads, IsBegun, IsUnderWay, Selects, EndsSo, EndsMarked, ShowsNothing, StopsWith, Finds, Refuses, count_to, IsLooked}
+use Rattle.cmd_tasks.specs.Looking.{Made, Glances, Sees, StopsSo, Refuses, IsLooked}
+use Rattle.cmd_tasks.specs.Moves.{Steps, Leads, IsBegun, IsUnderWay, EndsSo, EndsMarked, count_to}
 use Rattle.cmd_tasks.specs.declared.trace.Item.{Item}
 use Rattle.cmd_tasks.specs.declared.trace.Item.TheVariants.{Looked, Wrote, Lost, Faulted}
 use Rattle.cmd_tasks.specs.declared.work.Wanted.{Wanted}
 use Rattle.cmd_tasks.specs.declared.work.State.{State}
-use Rattle.cmd_tasks.specs.declared.work.State.TheVariants.{Inserting, Selecting, Counting}
+use Rattle.cmd_tasks.specs.declared.work.State.TheVariants.{Inserting, Counting}
 use Rattle.cmd_tasks.specs.declared.work.Moved.{Moved}
 use Rattle.cmd_tasks.specs.declared.work.Moved.TheVariants as m
 use Rattle.cmd_tasks.specs.declared.work.Glance.{Glance}
@@ -42,29 +46,6 @@ use Rattle.cmd_tasks.specs.declared.work.Glance.TheVariants as g
 use Rattle.cmd_tasks.proofs.Glances.{saw, saw_before, saw_entry, lost_here, looked_here, failed_here}
 
 -- ---- what a step is, told or not
-
-pub select_steps : (k low high : ℕ) (H H' : List Entry) (w : Wanted) (last : Option Tree) (item : Item) (page : Vec Version Global) (rows : List Version) (up : Option Tree) (o : Moved)
-    → IsWanted w → Glances k low high last H H' (g.Shown item page up) → Selects w item rows up o → Steps k low high (Selecting w last) H H' o
-select_steps k low high H H' w last item page (v ∷ rows) up (m.Goes i s) wanted h is = absurd is
-select_steps k low high H H' w last item page (v ∷ rows) up (m.Ends i r) wanted h is = subst (λ z. Steps k low high (Selecting w last) H H' (m.Ends z r)) (sym is.0) h.0
-select_steps k low high H H' w last item page (v ∷ rows) up m.NoMemory wanted h is = absurd is
-select_steps k low high H H' w last item page [] None (m.Goes i s) wanted h is = absurd is
-select_steps k low high H H' w last item page [] None (m.Ends i r) wanted h is = subst (λ z. Steps k low high (Selecting w last) H H' (m.Ends z r)) (sym is.0) h.0
-select_steps k low high H H' w last item page [] None m.NoMemory wanted h is = absurd is
-select_steps k low high H H' w last item page [] (Some u) o wanted h is = subst (Steps k low high (Selecting w last) H H') (sym is) (h.0, refl, wanted, h.1)
-
-same_some : {A : Type 0} (a b : A) → Some a ≡ Some b → a ≡ b
-same_some a b e = cc
-
--- a page with a first row
-pub first_taken : (w : Wanted) (item : Item) (rows : List Version) (up : Option Tree) (o : Moved) (v : Version) → slice_get rows 0 ≡ Some v → EndsSo item (Finds (Some v.doc)) o → Selects w item rows up o
-first_taken w item [] up o v e h = cc
-first_taken w item (x ∷ page) up o v e h = subst (λ (y : Version). EndsSo item (Finds (Some y.doc)) o) (sym (same_some x v e)) h
-
--- a page with none
-pub none_taken : (w : Wanted) (item : Item) (rows : List Version) (up : Option Tree) (o : Moved) → slice_get rows 0 ≡ None → Selects w item [] up o → Selects w item rows up o
-none_taken w item [] up o e h = h
-none_taken w item (x ∷ page) up o e h = cc
 
 few : (n : ℕ) → leb 1001 n ≡ false → ((leb 1001 n ≡ true) × (1001 ≤ n)) ⊎ ((leb 1001 n ≡ false) × (n < 1001)) → n < 1001
 few n e z = ⊎_elim (λ q. absurd (no (sym e ∙ q.0))) (λ q. q.1) z
@@ -104,34 +85,16 @@ found_one (Some tx) n = (tx, refl)
 
 -- ---- what it means for the request, where told
 
--- where a listing stops
-module _ (base : Base) (coll : Name) (k : ℕ) where
-  -- a listing at a point where the collection doesn't live
-  pub gone_stops : (last : Option Tree) (H H' : List Entry) (at : ℕ) (item : Item) (reply : Reply) → H' ≡ H → at ≡ length H → IsLooked item at last None [] → IsGone coll (replay base H)
-      → Refuses (errors.no_collection coll) reply → StopsSo base coll k H' last item reply
-  gone_stops last H H' at (Looked a from to pairs) reply same here is gone refuses =
-      let past : take a H' ≡ H = saw H H' a same (is.0 ∙ here) in
-      (errors.no_collection coll, ((is.1, is.2), is.3, inl (subst (IsGone coll) (ap (replay base) (sym past)) gone, refl)), refuses)
-  gone_stops last H H' at (Wrote a) reply same here is gone refuses = absurd is
-  gone_stops last H H' at (Lost a read f) reply same here is gone refuses = absurd is
-  gone_stops last H H' at (Faulted a b c) reply same here is gone refuses = absurd is
+-- why a write isn't made at this state of the store: no number is left, or else the collection doesn't live
+abbrev pub IsNoWrite : Name → Base → ErrorItem → Type 0
+IsNoWrite coll s error = ((s.next ≡ 2 ^ 63 - 1) × (error ≡ errors.versions_spent)) ⊎ ((s.next ≢ 2 ^ 63 - 1) × IsGone coll s × (error ≡ errors.no_collection coll))
 
-  pub fault_stops : (last : Option Tree) (H H' : List Entry) (at before count : ℕ) (reply : Reply) → H' ≡ H ++ Failed k before count ∷ [] → at ≡ length H
-      → Refuses (errors.store_fault before count) reply → StopsSo base coll k H' last (Faulted at before count) reply
-  fault_stops last H H' at before count reply longer here refuses = (errors.store_fault before count, (saw_entry H H' (Failed k before count) at longer here, refl), refuses)
+-- a write that wasn't made for want of the collection had a number left
+pub gone_not_spent : (at n : ℕ) → ◌≡◌ {A = WriteOutcome} (w.NoCollection at) (w.VersionsSpent n) → ⊥
+gone_not_spent at n e = cc
 
-  pub gone_sees : (last : Option Tree) (H H' : List Entry) (f : FilterTree) (at : ℕ) (o : Glance) → H' ≡ H → at ≡ length H → IsGone coll (replay base H)
-      → ShowsNothing at last (Refuses (errors.no_collection coll)) o → Sees base coll k H' f last o
-  gone_sees last H H' f at (g.Shown item rs up) same here gone is = absurd is
-  gone_sees last H H' f at (g.Ended item r) same here gone is = gone_stops last H H' at item r same here is.0 gone is.1
-  gone_sees last H H' f at g.NoMemory same here gone is = absurd is
-
-  pub fault_sees : (last : Option Tree) (H H' : List Entry) (f : FilterTree) (at before count : ℕ) (o : Glance) → H' ≡ H ++ Failed k before count ∷ [] → at ≡ length H
-      → StopsWith (Faulted at before count) (Refuses (errors.store_fault before count)) o → Sees base coll k H' f last o
-  fault_sees last H H' f at before count (g.Shown item rs up) longer here is = absurd is
-  fault_sees last H H' f at before count (g.Ended item r) longer here is =
-      subst (λ (i : Item). StopsSo base coll k H' last i r) (sym is.0) (fault_stops last H H' at before count r longer here is.1)
-  fault_sees last H H' f at before count g.NoMemory longer here is = absurd is
+pub marked_so : (coll : Name) (k : ℕ) (base : Base) (W : Type 0) (s : Sight) (error : ErrorItem) → W → IsNoWrite coll (now base coll s) error → IsMarked base coll k W s error
+marked_so coll k base W s error writes cause = ⊎_elim (λ z. inl (writes, z.0, z.1)) (λ z. inr ((λ w. z.0), z.1, z.2)) cause
 
 module _ (base : Base) (coll : Name) (k : ℕ) (moment : ℤ) where
   looks_wrote : (f : FilterTree) (r : Rows) (from : Option Tree) (i : Item) → Looks base coll f r from i → one_if_wrote i ≡ 0
@@ -140,9 +103,13 @@ module _ (base : Base) (coll : Name) (k : ℕ) (moment : ℤ) where
   looks_wrote f r from (Lost at read found) h = absurd h
   looks_wrote f r from (Faulted at before count) h = absurd h
 
-  find_accepts : (f : FilterTree) (s : List Sight) → IsPartOf base coll k moment (find_one f) s → accepted s ≡ 0
-  find_accepts f [] h = refl
-  find_accepts f (s ∷ earlier) h = let a = find_accepts f earlier h.0 in let b = looks_wrote f _ _ s.item h.2.1 in omega arith
+  pub find_one_accepts : (f : FilterTree) (sort : SortKeys) (shows : Shows) (s : List Sight) → IsPartOf base coll k moment (find_one f sort shows) s → accepted s ≡ 0
+  find_one_accepts f sort shows [] h = refl
+  find_one_accepts f sort shows (s ∷ earlier) h = let a = find_one_accepts f sort shows earlier h.0 in let b = looks_wrote f _ _ s.item h.2.1 in omega arith
+
+  pub find_accepts : (f : FilterTree) (sort : SortKeys) (shows : Shows) (p : Paging) (s : List Sight) → IsPartOf base coll k moment (find f sort shows p) s → accepted s ≡ 0
+  find_accepts f sort shows p [] h = refl
+  find_accepts f sort shows p (s ∷ earlier) h = let a = find_accepts f sort shows p earlier h.0 in let b = looks_wrote f _ _ s.item h.2.1 in omega arith
 
   count_accepts : (f : FilterTree) (s : List Sight) → IsPartOf base coll k moment (count_documents f) s → accepted s ≡ 0
   count_accepts f [] h = refl
@@ -150,9 +117,10 @@ module _ (base : Base) (coll : Name) (k : ℕ) (moment : ℤ) where
 
   accepts : (c : CommandTree) (s : List Sight) → IsBegun base coll k moment c s → accepted s ≡ 0
   accepts (insert_one d) s h = ap accepted h.1
-  accepts (find_one f) s h = find_accepts f s h.0
+  accepts (find_one f sort shows) s h = find_one_accepts f sort shows s h.0
+  accepts (find f sort shows p) s h = find_accepts f sort shows p s h.0
   accepts (count_documents f) s h = count_accepts f s h.0
-  accepts (update_one f u) s h = h.1.0
+  accepts (update_one f u sort) s h = h.1.0
 
   -- a request that is under way may end for want of memory
   pub cut_off : (c : CommandTree) (s : List Sight) → IsBegun base coll k moment c s → Serves base coll k moment c s (NoMemory 0)
@@ -219,19 +187,19 @@ module _ (base : Base) (coll : Name) (k : ℕ) (moment : ℤ) where
 
   -- a mark in the place of the write
   pub mark_serves : (d : Tree) (earlier : List Sight) (H H' : List Entry) (at : ℕ) (item : Item) (error : ErrorItem) (reply : Reply) → IsBegun base coll k moment (insert_one d) earlier → H' ≡ H → at ≡ length H
-      → IsLooked item at (Some (id_of d)) (Some (id_of d)) [] → (IsGone coll (replay base H) × (error ≡ errors.no_collection coll)) ⊎ (((replay base H).next ≡ 2 ^ 63 - 1) × (error ≡ errors.versions_spent))
+      → IsLooked item at (Some (id_of d)) (Some (id_of d)) [] → IsNoWrite coll (replay base H) error
       → Refuses error reply → Serves base coll k moment (insert_one d) (sight H' item ∷ earlier) reply
   mark_serves d earlier H H' at (Looked a from to pairs) error reply begun same here is cause refuses =
       let past : take a H' ≡ H = saw H H' a same (is.0 ∙ here) in
       let back : replay base H ≡ replay base (take a H') = ap (replay base) (sym past) in
       stopped_serves (insert_one d) earlier (sight H' (Looked a from to pairs)) error reply begun
-      ((is.1, is.2), is.3, ⊎_elim (λ z. inl (subst (IsGone coll) back z.0, z.1)) (λ z. inr (tt, subst (λ (s : Base). s.next ≡ 2 ^ 63 - 1) back z.0, z.1)) cause) refuses
+      ((is.1, is.2), is.3, marked_so coll k base ⊤ (sight H' (Looked a from to pairs)) error tt (subst (λ (s : Base). IsNoWrite coll s error) back cause)) refuses
   mark_serves d earlier H H' at (Wrote a) error reply begun same here is cause refuses = absurd is
   mark_serves d earlier H H' at (Lost a read f) error reply begun same here is cause refuses = absurd is
   mark_serves d earlier H H' at (Faulted a b c) error reply begun same here is cause refuses = absurd is
 
   pub marked_leads : (d : Value) (earlier : List Sight) (H H' : List Entry) (at : ℕ) (key twin : Tree) (error : ErrorItem) (o : Moved) → key ≡ id_of (tree d) → twin ≡ id_of (tree d) → IsUnderWay base coll k moment (Inserting d) earlier → H' ≡ H → at ≡ length H
-      → (IsGone coll (replay base H) × (error ≡ errors.no_collection coll)) ⊎ (((replay base H).next ≡ 2 ^ 63 - 1) × (error ≡ errors.versions_spent))
+      → IsNoWrite coll (replay base H) error
       → EndsMarked at (Some key) (Some twin) (Refuses error) o → Leads base coll k moment H' (Inserting d) earlier o
   marked_leads d earlier H H' at key twin error (m.Goes i w) key_is twin_is way same here cause is = absurd is
   marked_leads d earlier H H' at key twin error (m.Ends i r) key_is twin_is way same here cause is =
@@ -247,55 +215,10 @@ module _ (base : Base) (coll : Name) (k : ℕ) (moment : ℤ) where
 
   -- ---- listings
 
-  none_shown : (f : FilterTree) (sights : List Sight) → GoesOn base coll f 1 sights → shown base coll f sights ≡ []
-  none_shown f [] h = refl
-  none_shown f (s ∷ earlier) h = empty _ h.1
-    where
-      empty : {A : Type 0} (xs : List A) → length xs < 1 → xs ≡ []
-      empty [] l = refl
-      empty (x ∷ xs) l = absurd (omega arith)
-
-  pub select_ended : (w : Wanted) (last : Option Tree) (H' : List Entry) (earlier : List Sight) (item : Item) (r : Reply) → IsUnderWay base coll k moment (Selecting w last) earlier → StopsSo base coll k H' last item r
-      → Serves base coll k moment (find_one (filter_tree w.filter)) (sight H' item ∷ earlier) r
-  select_ended w last H' earlier item r way stops = stopped_serves (find_one (filter_tree w.filter)) earlier (sight H' item) stops.0 r way.0
-      (subst (λ (l : Option Tree). Stops base coll k (λ after up. (after ≡ l) × (up ≡ None)) ⊥ item (sight H' item) stops.0) way.1 stops.1) stops.2
-
   pub count_ended : (w : Wanted) (last : Option Tree) (n : ℕ) (H' : List Entry) (earlier : List Sight) (item : Item) (r : Reply) → IsUnderWay base coll k moment (Counting w last n) earlier → StopsSo base coll k H' last item r
       → Serves base coll k moment (count_documents (filter_tree w.filter)) (sight H' item ∷ earlier) r
   count_ended w last n H' earlier item r way stops = stopped_serves (count_documents (filter_tree w.filter)) earlier (sight H' item) stops.0 r way.0
       (subst (λ (l : Option Tree). Stops base coll k (λ after up. (after ≡ l) × (up ≡ None)) ⊥ item (sight H' item) stops.0) way.1.0 stops.1) stops.2
-
-  found_serves : (f : FilterTree) (s : Sight) (earlier : List Sight) (d : Option Tree) (r : Reply) → IsPartOf base coll k moment (find_one f) (s ∷ earlier)
-      → (TellsFound d r → Serves base coll k moment (find_one f) (s ∷ earlier) r) → Finds d r → Serves base coll k moment (find_one f) (s ∷ earlier) r
-  found_serves f s earlier d r part told finds = ⊎_elim told (λ e. inr (inr (inl part, e ∙ ap NoMemory (sym (find_accepts f (s ∷ earlier) part))))) finds
-
-  pub select_leads : (w : Wanted) (last : Option Tree) (H' : List Entry) (earlier : List Sight) (item : Item) (page : Vec Version Global) (rows : List Version) (up : Option Tree) (o : Moved) → page.items ≡ rows → IsUnderWay base coll k moment (Selecting w last) earlier
-      → Sees base coll k H' (filter_tree w.filter) last (g.Shown item page up) → Selects w item rows up o → Leads base coll k moment H' (Selecting w last) earlier o
-  select_leads w last H' earlier item page rows up o are way sees is = parts rows up o are sees part all is
-    where
-      f : FilterTree
-      f = filter_tree w.filter
-
-      s : Sight
-      s = sight H' item
-
-      part : IsPartOf base coll k moment (find_one f) (s ∷ earlier)
-      part = (way.0.0, way.0.1, subst (λ (l : Option Tree). IsLook base coll f l s) way.1 sees.0)
-
-      all : shown base coll f (s ∷ earlier) ≡ map found_row rows
-      all = (λ i. none_shown f earlier way.0.1 i ++ sees.1 i) ∙ ap (map found_row) are
-
-      parts : (rows' : List Version) (up' : Option Tree) (o' : Moved) → page.items ≡ rows' → Sees base coll k H' f last (g.Shown item page up') → IsPartOf base coll k moment (find_one f) (s ∷ earlier) → shown base coll f (s ∷ earlier) ≡ map found_row rows'
-          → Selects w item rows' up' o' → Leads base coll k moment H' (Selecting w last) earlier o'
-      parts (v ∷ vs) up' (m.Goes i z) a e p q h = absurd h
-      parts (v ∷ vs) up' (m.Ends i r) a e p q h = subst (λ x. Serves base coll k moment (find_one f) (sight H' x ∷ earlier) r) (sym h.0)
-          (found_serves f s earlier (Some v.doc) r p (λ t. inl (p, (inr (omega (arith, ap length q)), subst (λ d. TellsFound d r) (sym (ap (λ l. option_map (λ x. x.doc) (first l)) q)) t))) h.1)
-      parts (v ∷ vs) up' m.NoMemory a e p q h = absurd h
-      parts [] None (m.Goes i z) a e p q h = absurd h
-      parts [] None (m.Ends i r) a e p q h = subst (λ x. Serves base coll k moment (find_one f) (sight H' x ∷ earlier) r) (sym h.0)
-          (found_serves f s earlier None r p (λ t. inl (p, (inl e.2, subst (λ d. TellsFound d r) (sym (ap (λ l. option_map (λ x. x.doc) (first l)) q)) t))) h.1)
-      parts [] None m.NoMemory a e p q h = absurd h
-      parts [] (Some u) o' a e p q h = subst (Leads base coll k moment H' (Selecting w last) earlier) (sym h) ((p, (e.3, omega (arith, ap length q))), sym e.2)
 
   pub count_leads : (w : Wanted) (last : Option Tree) (n n' : ℕ) (H' : List Entry) (earlier : List Sight) (item : Item) (page : Vec Version Global) (up : Option Tree) → n' ≡ n + length page.items → IsUnderWay base coll k moment (Counting w last n) earlier
       → Sees base coll k H' (filter_tree w.filter) last (g.Shown item page up) → Leads base coll k moment H' (Counting w last n) earlier (count_to w item n' up)

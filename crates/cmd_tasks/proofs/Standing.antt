@@ -1,5 +1,5 @@
 -- A step of a task, and the entries of others between two steps, keep where it stands.
-use Rattle.std.proofs.Common.{◌≡◌, ℕ, ℤ, zero, suc, ◌+◌, ◌≤◌, List, [], ◌∷◌, ◌++◌, map, drop, reverse, length, Option, Some, refl, sym, ap, ◌∙◌, subst, arith, inl, inr, length-append, length-drop, Vec, Global}
+use Rattle.std.proofs.Common.{◌≡◌, ℕ, ℤ, zero, suc, ◌+◌, ◌≤◌, List, [], ◌∷◌, ◌++◌, map, drop, reverse, length, Option, Some, None, refl, sym, ap, ◌∙◌, subst, arith, inl, inr, length-append, length-drop, Vec, Global}
 use Rattle.std.specs.Prelude.{IfSome}
 use Rattle.std.specs.Option.{ForSome}
 use Rattle.col_keeper.specs.Tables.{Name}
@@ -15,13 +15,17 @@ use Rattle.cmd_tasks.specs.declared.trace.Item.{Item}
 use Rattle.cmd_tasks.specs.declared.trace.Item.TheVariants.{Looked, Wrote, Lost, Faulted}
 use Rattle.cmd_tasks.proofs.Extension.{sights_more, within_longer, places_more}
 use Rattle.cmd_tasks.proofs.Requests.{cut_off}
+use Rattle.cmd_tasks.proofs.Fresh.{fresh_searching, none_first, match_none}
 use Rattle.cmd_tasks.proofs.Sessions.{sights_snoc, ordered_snoc, within_snoc, written_snoc, places-append}
-use Rattle.cmd_tasks.specs.Moves.{Promises, asked, IsReady, Begins, Made, Steps, IsBegun, IsUnderWay}
+use Rattle.cmd_tasks.specs.Searches.{first_of}
+use Rattle.cmd_tasks.specs.Part.{from_of}
+use Rattle.cmd_tasks.specs.Looking.{Made}
+use Rattle.cmd_tasks.specs.Moves.{paging, Promises, asked, IsReady, Begins, Steps, IsBegun, IsUnderWay}
 use Rattle.cmd_tasks.specs.Placed.{OwnFrom, IsPlaced}
 use Rattle.cmd_tasks.specs.Stands.{StandsOn, IfDone}
 use Rattle.cmd_tasks.specs.declared.task.Task.{Task}
 use Rattle.cmd_tasks.specs.declared.work.State.{State}
-use Rattle.cmd_tasks.specs.declared.work.State.TheVariants.{Inserting, Selecting, Counting, Choosing, Changing, Done}
+use Rattle.cmd_tasks.specs.declared.work.State.TheVariants.{Inserting, Selecting, Listing, Counting, Choosing, Changing, Done}
 use Rattle.cmd_tasks.specs.declared.work.Moved.TheVariants as m
 
 pub point_within : (n : ℕ) (i : Item) → IsWithin n i → point i ≤ n
@@ -88,26 +92,33 @@ asked_so : (o : Option CommandTree) (c : CommandTree) (P : CommandTree → Type 
 asked_so o c P e h = subst (λ (z : Option CommandTree). IfSome z P) e h
 
 begins_asked : (moment : ℤ) (c : CommandTree) (w : State) → Begins moment c w → asked w ≡ Some c
-begins_asked moment c (Inserting d) h = ap Some (sym h.0)
-begins_asked moment c (Selecting w last) h = ap Some (sym h.0)
-begins_asked moment c (Counting w last n) h = ap Some (sym h.0)
-begins_asked moment c (Choosing u last) h = ap Some (sym h.0)
+begins_asked moment c (Inserting d) h = h.0
+begins_asked moment c (Selecting search p shows) h = h.0
+begins_asked moment c (Listing search p part) h = h.0
+begins_asked moment c (Counting w last n) h = h.0
+begins_asked moment c (Choosing u p) h = h.0
 begins_asked moment c (Changing u read d) h = absurd h
 begins_asked moment c (Done reply) h = absurd h
 
 begins_ready : (moment : ℤ) (c : CommandTree) (w : State) → Begins moment c w → IsReady w
 begins_ready moment c (Inserting d) h = h.1
-begins_ready moment c (Selecting w last) h = h.1
-begins_ready moment c (Counting w last n) h = (h.1, omega (arith, h.3))
-begins_ready moment c (Choosing u last) h = (h.1, let n = ap length h.3 in omega arith)
+begins_ready moment c (Selecting search p shows) h = h.1
+begins_ready moment c (Listing search p part) h = h.1
+begins_ready moment c (Counting w last n) h = h.1
+begins_ready moment c (Choosing u p) h = h.1
 begins_ready moment c (Changing u read d) h = absurd h
 begins_ready moment c (Done reply) h = absurd h
 
 begins_way : (base : Base) (coll : Name) (k : ℕ) (moment : ℤ) (c : CommandTree) (w : State) → Begins moment c w → IsUnderWay base coll k moment w []
 begins_way base coll k moment c (Inserting d) h = ((tt, refl), tt)
-begins_way base coll k moment c (Selecting w last) h = ((tt, tt), h.2)
+begins_way base coll k moment c (Selecting search p shows) h = ((tt, tt), fresh_searching base coll None search p h.2)
+begins_way base coll k moment c (Listing search p part) h = ((tt, tt), fresh_searching base coll (from_of (paging part)) search p h.2)
 begins_way base coll k moment c (Counting w last n) h = ((tt, tt), (h.2, h.3))
-begins_way base coll k moment c (Choosing u last) h = ((tt, (refl, omega arith, tt)), (h.2, refl, record { moment_is = h.4; lost_are = ap reverse h.3 }))
+begins_way base coll k moment c (Choosing u p) h =
+    let none = none_first u.search.sort in (
+      (tt, (refl, omega arith, match_none (first_of u.search.sort [] []) _ _ none tt)),
+      (fresh_searching base coll None u.search p h.2, none, record { moment_is = h.4; lost_are = ap reverse h.3 }),
+    )
 begins_way base coll k moment c (Changing u read d) h = absurd h
 begins_way base coll k moment c (Done reply) h = absurd h
 

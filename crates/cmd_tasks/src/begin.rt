@@ -1,5 +1,5 @@
 // The states in which the commands begin that search.
-ghost use Rattle.std.specs.Prelude.{◌≡◌, ◌<◌, ◌≤◌, ◌-◌, ◌^◌, None, Some, IfSome, min, option_and_then};
+ghost use Rattle.std.specs.Prelude.{◌≡◌, ◌<◌, ◌≤◌, ◌-◌, ◌^◌, ℤ, None, Some};
 ghost use Rattle.std.specs.Option.{option_map};
 ghost use Rattle.filter_tree.specs.View.{filter_tree};
 ghost use Rattle.cmd_grammar.specs.Commands.{IsAskableFilter, IsAskablePage, IsAskablePaging, Paging, find_one, find, update_one, update_many, delete_one, delete_many};

@@ -13,7 +13,7 @@ ghost use Rattle.store_core.specs.Growth.{Grows};
 ghost use Rattle.cmd_tasks.specs.Pages.{found_row};
 ghost use Rattle.cmd_tasks.specs.Part.{has_next, given_of, keep_of, state_after};
 ghost use Rattle.cmd_tasks.specs.Searching.{IsSearchable};
-ghost use Rattle.cmd_tasks.specs.Moves.{Steps, Promises, Finds, TellsPage, Lists, IsPart, paging};
+ghost use Rattle.cmd_tasks.specs.Moves.{Steps, Promises, Finds, TellsPage, Lists, EndsSo, IsPart, paging};
 
 use crate::search::search;
 use crate::trace::Item;
@@ -41,6 +41,20 @@ fn first_of(alloc: Global, projection: &Projection, rows: &[Row]) -> Reply
         Ok(view) => Reply::Found { view: Some(view) },
         Err(_) => Reply::NoMemory { accepted: 0 },
     }
+}
+
+/// What findOne makes of all that was searched for.
+fn selected(
+    alloc: Global,
+    item: Item,
+    _sought: Search,
+    progress: Progress,
+    projection: Projection,
+) -> Moved
+    ensures { EndsSo item (Finds (option_map (λ v. view projection v.doc) (first progress.kept.items))) result }
+{
+    let reply = first_of(alloc, &projection, progress.kept.as_slice());
+    Moved::Ends { item, reply }
 }
 
 /// A step of findOne.
@@ -73,10 +87,9 @@ pub(crate) fn select<K: Keeper>(
                 projection,
             },
         },
-        Searched::Whole { item, progress } => Moved::Ends {
-            item,
-            reply: first_of(alloc, &projection, progress.kept.as_slice()),
-        },
+        Searched::Whole { item, progress } => {
+            selected(alloc, item, sought, progress, projection)
+        }
         Searched::Stopped { item, reply } => Moved::Ends { item, reply },
         Searched::NoMemory => Moved::NoMemory,
     }
@@ -91,14 +104,15 @@ fn goes_on(limit: u64, given: u64, shown: usize) -> bool
 }
 
 /// The page state that goes on behind this document, when so many were given.
-fn state_behind(alloc: Global, given: u64, row: &Row) -> Result<Text, ViewFault>
-    ensures { IfOk result (λ text. text ≡ state_text (min given (2 ^ 63 - 1)) (id_of row.now.doc)) }
+fn state_behind(alloc: Global, given: u64, row: &Row) -> Result<Option<Text>, ViewFault>
+    ensures { IfOk result (λ state. state ≡ Some (state_text (min given (2 ^ 63 - 1)) (id_of row.now.doc))) }
 {
     let page = PageState {
         given: given.min(i64::MAX as u64),
         last: row.id().try_copy(alloc)?,
     };
-    page.print(alloc)
+    let text = page.print(alloc)?;
+    Ok(Some(text))
 }
 
 /// The page state behind these rows, if there is one.
@@ -111,11 +125,14 @@ fn state_after_rows(
     requires part { IsPart part.now }
     ensures { IfOk result (λ state. state ≡ state_after sort.now (paging part.now) (map found_row rows.now)) }
 {
-    if !sort.is_empty() || !goes_on(part.limit, part.given, rows.len()) {
+    if !sort.is_empty() {
+        return Ok(None);
+    }
+    if !goes_on(part.limit, part.given, rows.len()) {
         return Ok(None);
     }
     match rows.last() {
-        Some(row) => Ok(Some(state_behind(alloc, part.given + PAGE, row)?)),
+        Some(row) => state_behind(alloc, part.given + PAGE, row),
         None => Ok(None),
     }
 }
@@ -163,6 +180,15 @@ fn page_or_none(alloc: Global, sort: &Sort, part: &Part, kept: &[Row]) -> Reply
     }
 }
 
+/// What find makes of all that was searched for.
+fn listed(alloc: Global, item: Item, sought: Search, progress: Progress, part: Part) -> Moved
+    requires part { IsPart part }
+    ensures { EndsSo item (Lists sought.sort part (drop part.skip progress.kept.items)) result }
+{
+    let reply = page_or_none(alloc, &sought.sort, &part, progress.kept.as_slice());
+    Moved::Ends { item, reply }
+}
+
 /// A step of find.
 pub(crate) fn list<K: Keeper>(
     alloc: Global,
@@ -194,10 +220,7 @@ pub(crate) fn list<K: Keeper>(
                 part,
             },
         },
-        Searched::Whole { item, progress } => Moved::Ends {
-            item,
-            reply: page_or_none(alloc, &sought.sort, &part, progress.kept.as_slice()),
-        },
+        Searched::Whole { item, progress } => listed(alloc, item, sought, progress, part),
         Searched::Stopped { item, reply } => Moved::Ends { item, reply },
         Searched::NoMemory => Moved::NoMemory,
     }

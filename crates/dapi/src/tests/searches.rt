@@ -667,26 +667,21 @@ pub(super) const ORDER: &str = r#"run --collection=c
 // Searches of ten thousand documents, which are sorted, and of one more.
 pub(super) const SORTABLE: &str =
     r#"/v1/ks/c {"find":{"sort":{"k":-1},"options":{"limit":3},"projection":{"_id":1}}}
-/v1/ks/c {"find":{"sort":{"k":1},"options":{"skip":480,"limit":2}}}
-/v1/ks/c {"find":{"filter":{"k":{"$lt":100}},"sort":{"k":-1},"options":{"skip":63,"limit":2}}}
-/v1/ks/c {"find":{"sort":{"zz":-1},"options":{"limit":1}}}
+/v1/ks/c {"find":{"sort":{"zz":-1},"options":{"skip":2,"limit":1}}}
 /v1/ks/c {"findOne":{"sort":{"k":-1},"projection":{"k":1,"_id":0}}}
 /v1/ks/c {"updateOne":{"sort":{"k":-1},"update":{"$set":{"k":-1}}}}
-/v1/ks/c {"findOne":{"sort":{"k":1}}}
+/v1/ks/c {"findOne":{"filter":{"k":-1}}}
 "#;
 
 pub(super) const SORTED: &str =
     r#"{"data":{"documents":[{"_id":9999},{"_id":9998},{"_id":9997}],"nextPageState":null}}
-{"data":{"documents":[{"_id":480,"k":480},{"_id":481,"k":481}],"nextPageState":null}}
-{"data":{"documents":[{"_id":36,"k":36},{"_id":35,"k":35}],"nextPageState":null}}
-{"data":{"documents":[{"_id":0,"k":0}],"nextPageState":null}}
+{"data":{"documents":[{"_id":2,"k":2}],"nextPageState":null}}
 {"data":{"document":{"k":9999}}}
 {"status":{"matchedCount":1,"modifiedCount":1}}
 {"data":{"document":{"_id":9999,"k":-1}}}
 "#;
 
 pub(super) const UNSORTABLE: &str = r#"/v1/ks/c {"find":{"sort":{"k":-1}}}
-/v1/ks/c {"find":{"filter":{"k":{"$gte":-1}},"sort":{"k":1,"_id":-1},"options":{"limit":1}}}
 /v1/ks/c {"findOne":{"sort":{"k":-1}}}
 /v1/ks/c {"updateOne":{"sort":{"k":-1},"update":{"$set":{"k":-1}}}}
 /v1/ks/c {"find":{"filter":{"k":{"$gte":0}},"sort":{"k":-1},"options":{"limit":2}}}
@@ -696,7 +691,6 @@ pub(super) const UNSORTABLE: &str = r#"/v1/ks/c {"find":{"sort":{"k":-1}}}
 
 pub(super) const REFUSED: &str =
     r#"{"errors":[{"message":"More than 10000 documents to sort","errorCode":"DATASET_TOO_BIG"}]}
-{"errors":[{"message":"More than 10000 documents to sort","errorCode":"DATASET_TOO_BIG"}]}
 {"errors":[{"message":"More than 10000 documents to sort","errorCode":"DATASET_TOO_BIG"}]}
 {"errors":[{"message":"More than 10000 documents to sort","errorCode":"DATASET_TOO_BIG"}]}
 {"data":{"documents":[{"_id":10000,"k":10000},{"_id":9998,"k":9998}],"nextPageState":null}}

@@ -29,11 +29,14 @@ returns-in-Err-read_page c = let t = tree c.args.command.now in
 pub returns-in-Ok-read_page : goal.returns-in-Ok-read_page
 returns-in-Ok-read_page c = let t = tree c.args.command.now in (
   none_of (projection_refusal t ∷ sort_refusal t ∷ inserted_refusal t ∷ []) (c.in-Ok.ensures.0, (c.in-Ok-read_sort.ensures.0, (c.in-Ok-check_inserted.ensures.0, tt))),
-  (record {
-    projection = c.in-Ok.ensures.1;
-    sort = c.in-Ok-read_sort.ensures.1;
-    limit = c.number_in-limit.ensures;
-    skip = c.number_in-skip.ensures;
-    page = c.in-Ok-read_page.ensures.1;
-  }, c.in-Ok-check_inserted.ensures.1),
+  (
+    record {
+      projection = c.in-Ok.ensures.1;
+      sort = c.in-Ok-read_sort.ensures.1;
+      limit = c.number_in-limit.ensures;
+      skip = c.number_in-skip.ensures;
+      page = c.in-Ok-read_page.ensures.1;
+    },
+    c.in-Ok-check_inserted.ensures.1,
+  ),
 )

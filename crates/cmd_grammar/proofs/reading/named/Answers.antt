@@ -1,4 +1,4 @@
-use Rattle.std.proofs.Common.{◌≡◌, length, ap, arith, sym, ◌∙◌, Some, None}
+use Rattle.std.proofs.Common.{ap, arith, sym, ◌∙◌, Some, None}
 use Rattle.json_tree.specs.View.{tree}
 use Rattle.cmd_grammar.proofs.Inside.{several, none_at, one_named}
 use Rattle.cmd_grammar.proofs.reading.named.Goals as goal

@@ -8,11 +8,12 @@ use Rattle.store_core.specs.State.{number_at}
 use Rattle.store_core.specs.Journal.{replay}
 use Rattle.reply_env.specs.declared.reply.Reply.TheVariants.{Inserted}
 use Rattle.cmd_tasks.specs.Served.{sights}
-use Rattle.cmd_tasks.specs.Moves.{EndsSo, Refuses}
+use Rattle.cmd_tasks.specs.Looking.{Refuses}
+use Rattle.cmd_tasks.specs.Moves.{EndsSo}
 use Rattle.cmd_tasks.specs.declared.trace.Item.TheVariants.{Lost}
 use Rattle.cmd_tasks.specs.declared.work.State.TheVariants.{Inserting}
 use Rattle.cmd_tasks.proofs.Glances.{wrote_here}
-use Rattle.cmd_tasks.proofs.Requests.{written_leads, lost_leads, taken_steps, found_one, marked_steps, marked_leads, failed_steps, failed_leads}
+use Rattle.cmd_tasks.proofs.Requests.{gone_not_spent, written_leads, lost_leads, taken_steps, found_one, marked_steps, marked_leads, failed_steps, failed_leads}
 use Rattle.cmd_tasks.proofs.steps.insert_doc.Goals as goal
 
 pub write-requires-clause-short : goal.write-requires-clause-short
@@ -60,7 +61,7 @@ returns-in-NoCollection-clause-leads g c = λ d d_is base told_base moment trace
     let earlier = sights c.args.store.now.journal trace in
     let told = c.in-NoCollection.ensures.answers in
     marked_leads base c.args.coll.now c.args.by moment d earlier c.args.store.now.journal c.write.new.self.journal c.in-NoCollection.at c.args.insertion.ids.key c.args.insertion.ids.twin (errors.no_collection c.args.coll.now) c.marked.result
-    (c.requires.ids.0 ∙ ap id_of (sym d_is)) (c.requires.ids.1 ∙ ap id_of (sym d_is)) way told.0.1 told.0.0 (inl (told.1 base told_base, refl)) (c.marked.ensures (errors.no_collection c.args.coll.now) (search rules))
+    (c.requires.ids.0 ∙ ap id_of (sym d_is)) (c.requires.ids.1 ∙ ap id_of (sym d_is)) way told.0.1 told.0.0 (inr ((λ e. gone_not_spent _ _ (c.in-NoCollection.ensures.spent (sym (c.journal_len.ensures.next base told_base) ∙ e))), told.1 base told_base, refl)) (c.marked.ensures (errors.no_collection c.args.coll.now) (search rules))
 
 pub returns-in-VersionsSpent-clause-steps : goal.returns-in-VersionsSpent-clause-steps
 returns-in-VersionsSpent-clause-steps g c = λ d d_is.
@@ -72,7 +73,7 @@ returns-in-VersionsSpent-clause-leads g c = λ d d_is base told_base moment trac
     let earlier = sights c.args.store.now.journal trace in
     let told = c.in-VersionsSpent.ensures.answers in
     marked_leads base c.args.coll.now c.args.by moment d earlier c.args.store.now.journal c.write.new.self.journal c.in-VersionsSpent.at c.args.insertion.ids.key c.args.insertion.ids.twin errors.versions_spent c.marked-in-VersionsSpent.result
-    (c.requires.ids.0 ∙ ap id_of (sym d_is)) (c.requires.ids.1 ∙ ap id_of (sym d_is)) way told.0.1 told.0.0 (inr (c.journal_len.ensures.next base told_base ∙ told.1, refl)) (c.marked-in-VersionsSpent.ensures errors.versions_spent c.versions_spent.ensures)
+    (c.requires.ids.0 ∙ ap id_of (sym d_is)) (c.requires.ids.1 ∙ ap id_of (sym d_is)) way told.0.1 told.0.0 (inl (c.journal_len.ensures.next base told_base ∙ told.1, refl)) (c.marked-in-VersionsSpent.ensures errors.versions_spent c.versions_spent.ensures)
 
 pub returns-in-Fault-clause-steps : goal.returns-in-Fault-clause-steps
 returns-in-Fault-clause-steps g c = λ d d_is.

@@ -1,6 +1,6 @@
 use Rattle.std.proofs.Common.{rules, ◌≡◌, ℕ, Some, sym, ap, ◌∙◌, subst}
 use Rattle.reply_env.specs.Messages as errors
-use Rattle.cmd_tasks.specs.Moves.{Refuses}
+use Rattle.cmd_tasks.specs.Looking.{Refuses}
 use Rattle.cmd_tasks.specs.declared.trace.Item.TheVariants.{Lost}
 use Rattle.cmd_tasks.proofs.steps.taken.Goals as goal
 

@@ -8,11 +8,11 @@ use Rattle.store_core.specs.State.{version}
 use Rattle.store_core.specs.Journal.{replay, IsMadeOfRead}
 use Rattle.store_core.specs.declared.entry.Change.TheVariants.{Update}
 use Rattle.store_core.specs.declared.entry.Entry.TheVariants.{Changed}
-use Rattle.cmd_tasks.specs.Moves.{Refuses}
+use Rattle.cmd_tasks.specs.Looking.{Refuses}
 use Rattle.cmd_tasks.specs.declared.work.State.TheVariants.{Changing}
 use Rattle.cmd_tasks.proofs.Glances.{wrote_here}
-use Rattle.cmd_tasks.proofs.Requests.{marked_steps, failed_steps}
-use Rattle.cmd_tasks.proofs.Rounds.{loses_steps, change_written, loses_leads, change_marked, change_failed}
+use Rattle.cmd_tasks.proofs.Requests.{gone_not_spent, marked_steps, failed_steps}
+use Rattle.cmd_tasks.proofs.Tries.{loses_steps, change_written, loses_leads, change_marked, change_failed}
 use Rattle.cmd_tasks.proofs.updates.change.Goals as goal
 
 pub write-requires-clause-short : goal.write-requires-clause-short
@@ -44,7 +44,7 @@ returns-in-Written-clause-leads g c = λ base told_base moment trace placed way.
 pub returns-in-Lost-clause-steps : goal.returns-in-Lost-clause-steps
 returns-in-Lost-clause-steps g c =
     let told = c.in-Lost.ensures.answers in
-    loses_steps c.args.by _ _ _ _ c.args.update c.args.read c.args.doc c.in-Lost.at c.in-Lost.found c.lost_to.result c.requires.wanted told.0.1 told.0.0 c.requires.few c.lost_to.ensures
+    loses_steps c.args.by _ _ _ _ c.args.update c.args.read c.args.doc c.in-Lost.at c.in-Lost.found c.lost_to.result c.requires.updating told.0.1 told.0.0 c.lost_to.ensures
 
 pub returns-in-Lost-clause-leads : goal.returns-in-Lost-clause-leads
 returns-in-Lost-clause-leads g c = λ base told_base moment trace placed way.
@@ -63,7 +63,7 @@ returns-in-NoCollection-clause-leads g c = λ base told_base moment trace placed
     let told = c.in-NoCollection.ensures.answers in
     let lawful = c.journal_len.ensures.lawful base told_base in
     change_marked base c.args.coll.now c.args.by moment c.args.update c.args.read c.args.doc c.args.store.now.journal trace placed lawful.0 (c.journal_len.ensures.apart base told_base) way
-    c.write.new.self.journal c.in-NoCollection.at c.in-Ok.ids.after c.in-Ok.ids.up_to (errors.no_collection c.args.coll.now) c.marked.result c.in-Ok.ensures.1 c.in-Ok.ensures.2 told.0.1 told.0.0 (inl (told.1 base told_base, refl)) (c.marked.ensures (errors.no_collection c.args.coll.now) (search rules))
+    c.write.new.self.journal c.in-NoCollection.at c.in-Ok.ids.after c.in-Ok.ids.up_to (errors.no_collection c.args.coll.now) c.marked.result c.in-Ok.ensures.1 c.in-Ok.ensures.2 told.0.1 told.0.0 (inr ((λ e. gone_not_spent _ _ (c.in-NoCollection.ensures.spent (sym (c.journal_len.ensures.next base told_base) ∙ e))), told.1 base told_base, refl)) (c.marked.ensures (errors.no_collection c.args.coll.now) (search rules))
 
 pub returns-in-VersionsSpent-clause-steps : goal.returns-in-VersionsSpent-clause-steps
 returns-in-VersionsSpent-clause-steps g c =
@@ -75,7 +75,7 @@ returns-in-VersionsSpent-clause-leads g c = λ base told_base moment trace place
     let told = c.in-VersionsSpent.ensures.answers in
     let lawful = c.journal_len.ensures.lawful base told_base in
     change_marked base c.args.coll.now c.args.by moment c.args.update c.args.read c.args.doc c.args.store.now.journal trace placed lawful.0 (c.journal_len.ensures.apart base told_base) way
-    c.write.new.self.journal c.in-VersionsSpent.at c.in-Ok.ids.after c.in-Ok.ids.up_to errors.versions_spent c.marked-in-VersionsSpent.result c.in-Ok.ensures.1 c.in-Ok.ensures.2 told.0.1 told.0.0 (inr (c.journal_len.ensures.next base told_base ∙ told.1, refl)) (c.marked-in-VersionsSpent.ensures errors.versions_spent c.versions_spent.ensures)
+    c.write.new.self.journal c.in-VersionsSpent.at c.in-Ok.ids.after c.in-Ok.ids.up_to errors.versions_spent c.marked-in-VersionsSpent.result c.in-Ok.ensures.1 c.in-Ok.ensures.2 told.0.1 told.0.0 (inl (c.journal_len.ensures.next base told_base ∙ told.1, refl)) (c.marked-in-VersionsSpent.ensures errors.versions_spent c.versions_spent.ensures)
 
 pub returns-in-Fault-clause-steps : goal.returns-in-Fault-clause-steps
 returns-in-Fault-clause-steps g c =

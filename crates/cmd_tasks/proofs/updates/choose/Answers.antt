@@ -1,22 +1,28 @@
-use Rattle.std.proofs.Common.{List, refl, subst}
-use Rattle.shred_cols.specs.Row.{Version}
-use Rattle.cmd_tasks.specs.Moves.{Chooses}
+use Rattle.std.proofs.Common.{refl, sym, arith}
 use Rattle.cmd_tasks.specs.Served.{sights}
-use Rattle.cmd_tasks.proofs.Rounds.{choose_steps, choose_leads, choose_ended}
+use Rattle.cmd_tasks.specs.declared.work.Searched.TheVariants as sr
+use Rattle.cmd_tasks.proofs.Rounds.{choose_steps, choose_seeks, choose_more, choose_whole, choose_stopped}
 use Rattle.cmd_tasks.proofs.updates.choose.Goals as goal
 
-pub returns-in-Shown-clause-steps : goal.returns-in-Shown-clause-steps
-returns-in-Shown-clause-steps g c =
-    choose_steps c.args.by _ _ _ _ c.args.update c.args.last c.in-Shown.item c.in-Shown.rows c.in-Shown.rows.items c.in-Shown.last c.chosen.result c.requires.wanted c.requires.few c.in-Shown.ensures.made
-    (subst (λ (l : List Version). Chooses c.args.update c.in-Shown.item l c.in-Shown.last c.chosen.result) c.deref.ensures.value c.chosen.ensures)
+pub returns-in-More-clause-steps : goal.returns-in-More-clause-steps
+returns-in-More-clause-steps g c = let told = c.in-More.ensures.searches in (told.0, refl, (c.requires.updating, told.1.few), omega arith)
 
-pub returns-in-Shown-clause-leads : goal.returns-in-Shown-clause-leads
-returns-in-Shown-clause-leads g c = λ base told_base moment trace placed way.
+pub returns-in-More-clause-leads : goal.returns-in-More-clause-leads
+returns-in-More-clause-leads g c = λ base told_base moment trace placed way.
     let earlier = sights c.args.store.now.journal trace in
-    choose_leads base c.args.coll.now c.args.by moment c.args.update c.args.last c.glance.new.store.journal earlier c.in-Shown.item c.in-Shown.rows c.in-Shown.rows.items c.in-Shown.last c.chosen.result refl way (c.in-Shown.ensures.told base told_base)
-    (subst (λ (l : List Version). Chooses c.args.update c.in-Shown.item l c.in-Shown.last c.chosen.result) c.deref.ensures.value c.chosen.ensures)
+    let seeks = choose_seeks base c.args.coll.now c.args.by moment c.args.update c.requires.updating.one c.search.new.store.journal earlier c.args.progress way (sr.More c.in-More.item c.in-More.progress) (c.in-More.ensures.seeks base told_base) in
+    choose_more base c.args.coll.now c.args.by moment c.args.update c.requires.updating.one c.search.new.store.journal earlier c.args.progress way c.in-More.item seeks.0 c.in-More.progress seeks.1 seeks.2
 
-pub returns-in-Ended-clause-leads : goal.returns-in-Ended-clause-leads
-returns-in-Ended-clause-leads g c = λ base told_base moment trace placed way.
+pub returns-in-Whole-clause-steps : goal.returns-in-Whole-clause-steps
+returns-in-Whole-clause-steps g c = choose_steps c.args.by _ _ _ _ c.args.update c.args.progress c.in-Whole.item c.as_slice.result.now c.chosen.result c.requires.updating c.in-Whole.ensures.searches c.chosen.ensures
+
+pub returns-in-Whole-clause-leads : goal.returns-in-Whole-clause-leads
+returns-in-Whole-clause-leads g c = λ base told_base moment trace placed way.
     let earlier = sights c.args.store.now.journal trace in
-    choose_ended base c.args.coll.now c.args.by moment c.args.update c.args.last c.glance.new.store.journal earlier c.in-Ended.item c.in-Ended.reply way (c.in-Ended.ensures.told base told_base)
+    let seeks = choose_seeks base c.args.coll.now c.args.by moment c.args.update c.requires.updating.one c.search.new.store.journal earlier c.args.progress way (sr.Whole c.in-Whole.item c.in-Whole.progress) (c.in-Whole.ensures.seeks base told_base) in
+    choose_whole base c.args.coll.now c.args.by moment c.args.update c.requires.updating.one c.search.new.store.journal earlier c.args.progress way c.in-Whole.item seeks.0 c.in-Whole.progress seeks.1 seeks.2 seeks.3 c.as_slice.result.now c.chosen.result (sym c.as_slice.ensures.value) c.chosen.ensures
+
+pub returns-in-Stopped-clause-leads : goal.returns-in-Stopped-clause-leads
+returns-in-Stopped-clause-leads g c = λ base told_base moment trace placed way.
+    let earlier = sights c.args.store.now.journal trace in
+    choose_stopped base c.args.coll.now c.args.by moment c.args.update c.requires.updating.one c.search.new.store.journal earlier c.args.progress way c.in-Stopped.item c.in-Stopped.reply (choose_seeks base c.args.coll.now c.args.by moment c.args.update c.requires.updating.one c.search.new.store.journal earlier c.args.progress way (sr.Stopped c.in-Stopped.item c.in-Stopped.reply) (c.in-Stopped.ensures.seeks base told_base))

@@ -6,7 +6,7 @@ use Rattle.cmd_tasks.specs.Served.{sights}
 use Rattle.cmd_tasks.specs.Stands.{StandsOn}
 use Rattle.cmd_tasks.specs.declared.work.State.{State}
 use Rattle.cmd_tasks.proofs.Standing.{stands_on, served_so, cut_so, done_so}
-use Rattle.cmd_tasks.proofs.Rounds.{fits_so}
+use Rattle.cmd_tasks.proofs.Tries.{fits_so}
 use Rattle.cmd_tasks.proofs.task.Task.step.Goals as goal
 
 room : {X E : Type 0} (r : Result X E) (n cap : ℕ) → is_ok r ≡ true → OnOk r (n + 1 ≤ cap) → n < cap
