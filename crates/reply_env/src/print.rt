@@ -5,7 +5,7 @@ ghost use Rattle.json_tree.specs.View.{tree};
 ghost use Rattle.json_text.specs.Print.{escaped, string_text, text_of};
 ghost use Rattle.name_tables.specs.Code.{code_text};
 ghost use Rattle.reply_env.specs.Messages.{out_of_memory};
-ghost use Rattle.reply_env.specs.Reply.{with_commas, view_text, state_text as page_text, listed_text, more_text, inserted_text, updated_text, next_text, updated_page_text, deleted_text, error_text, errors_text, so_far_text, status_text, reply_text};
+ghost use Rattle.reply_env.specs.Reply.{with_commas, view_text, state_text as page_text, listed_text, more_text, inserted_text, next_text, updated_text, deleted_text, error_text, errors_text, so_far_text, status_text, reply_text};
 
 use crate::fault::ReplyFault;
 use crate::fixed::no_memory_reply;
@@ -122,22 +122,51 @@ fn print_errors(errors: &[ErrorItem], out: &mut Vec<u8>) -> Result<(), AllocErro
     Ok(())
 }
 
-fn print_updated(matched: u64, modified: u64, out: &mut Vec<u8>) -> Result<(), AllocError>
-    ensures { OnOk result (out.new.items ≡ out.old.items ++ updated_text matched modified) }
+// Where the next page begins, where there is one.
+fn print_next(state: &Option<Text>, out: &mut Vec<u8>) -> Result<(), AllocError>
+    ensures { OnOk result (out.new.items ≡ out.old.items ++ next_text state.now) }
+{
+    match state {
+        None => Ok(()),
+        Some(state) => {
+            out.extend_from_slice(b",\"moreData\":true,\"nextPageState\":")?;
+            print_string(state.as_str(), out)
+        }
+    }
+}
+
+fn print_updated(
+    matched: u64,
+    modified: u64,
+    state: &Option<Text>,
+    out: &mut Vec<u8>,
+) -> Result<(), AllocError>
+    ensures { OnOk result (out.new.items ≡ out.old.items ++ updated_text matched modified state.now) }
 {
     out.extend_from_slice(b"{\"matchedCount\":")?;
     print_decimal(matched, out)?;
     out.extend_from_slice(b",\"modifiedCount\":")?;
     print_decimal(modified, out)?;
+    print_next(state, out)?;
     out.push(b'}')?;
     Ok(())
 }
 
-fn print_deleted(deleted: u64, out: &mut Vec<u8>) -> Result<(), AllocError>
-    ensures { OnOk result (out.new.items ≡ out.old.items ++ (codes "{\"deletedCount\":" ++ decimal deleted ++ codes "}")) }
+fn print_more(more: bool, out: &mut Vec<u8>) -> Result<(), AllocError>
+    ensures { OnOk result (out.new.items ≡ out.old.items ++ more_text more) }
+{
+    if more {
+        out.extend_from_slice(b",\"moreData\":true")?;
+    }
+    Ok(())
+}
+
+fn print_deleted(deleted: u64, more: bool, out: &mut Vec<u8>) -> Result<(), AllocError>
+    ensures { OnOk result (out.new.items ≡ out.old.items ++ deleted_text deleted more) }
 {
     out.extend_from_slice(b"{\"deletedCount\":")?;
     print_decimal(deleted, out)?;
+    print_more(more, out)?;
     out.push(b'}')?;
     Ok(())
 }
@@ -147,8 +176,8 @@ fn print_so_far(so_far: &SoFar, out: &mut Vec<u8>) -> Result<(), AllocError>
 {
     match so_far {
         SoFar::Inserted(ids) => print_inserted(ids.as_slice(), out),
-        SoFar::Updated { matched, modified } => print_updated(*matched, *modified, out),
-        SoFar::Deleted { deleted } => print_deleted(*deleted, out),
+        SoFar::Updated { matched, modified } => print_updated(*matched, *modified, &None, out),
+        SoFar::Deleted { deleted } => print_deleted(*deleted, false, out),
     }
 }
 
@@ -230,15 +259,6 @@ fn print_listed(views: &[Value], state: &Option<Text>, out: &mut Vec<u8>) -> Res
     Ok(())
 }
 
-fn print_more(more: bool, out: &mut Vec<u8>) -> Result<(), AllocError>
-    ensures { OnOk result (out.new.items ≡ out.old.items ++ more_text more) }
-{
-    if more {
-        out.extend_from_slice(b",\"moreData\":true")?;
-    }
-    Ok(())
-}
-
 fn print_insertion(ids: &[DocId], out: &mut Vec<u8>) -> Result<(), AllocError>
     ensures { OnOk result (out.new.items ≡ out.old.items ++ (codes "{\"status\":" ++ inserted_text ids.now ++ codes "}")) }
 {
@@ -265,65 +285,16 @@ fn print_count(count: u64, more: bool, out: &mut Vec<u8>) -> Result<(), AllocErr
     out.extend_from_slice(b"}}")
 }
 
-fn print_update(matched: u64, modified: u64, out: &mut Vec<u8>) -> Result<(), AllocError>
-    ensures { OnOk result (out.new.items ≡ out.old.items ++ (codes "{\"status\":" ++ updated_text matched modified ++ codes "}")) }
-{
-    out.extend_from_slice(b"{\"status\":")?;
-    print_updated(matched, modified, out)?;
-    out.push(b'}')?;
-    Ok(())
-}
-
-// Where the next page begins, where there is one.
-fn print_next(state: &Option<Text>, out: &mut Vec<u8>) -> Result<(), AllocError>
-    ensures { OnOk result (out.new.items ≡ out.old.items ++ next_text state.now) }
-{
-    match state {
-        None => Ok(()),
-        Some(state) => {
-            out.extend_from_slice(b",\"moreData\":true,\"nextPageState\":")?;
-            print_string(state.as_str(), out)
-        }
-    }
-}
-
-fn print_updated_page(
+fn print_update(
     matched: u64,
     modified: u64,
     state: &Option<Text>,
     out: &mut Vec<u8>,
 ) -> Result<(), AllocError>
-    ensures { OnOk result (out.new.items ≡ out.old.items ++ updated_page_text matched modified state.now) }
-{
-    out.extend_from_slice(b"{\"matchedCount\":")?;
-    print_decimal(matched, out)?;
-    out.extend_from_slice(b",\"modifiedCount\":")?;
-    print_decimal(modified, out)?;
-    print_next(state, out)?;
-    out.push(b'}')?;
-    Ok(())
-}
-
-fn print_update_of_many(
-    matched: u64,
-    modified: u64,
-    state: &Option<Text>,
-    out: &mut Vec<u8>,
-) -> Result<(), AllocError>
-    ensures { OnOk result (out.new.items ≡ out.old.items ++ (codes "{\"status\":" ++ updated_page_text matched modified state.now ++ codes "}")) }
+    ensures { OnOk result (out.new.items ≡ out.old.items ++ (codes "{\"status\":" ++ updated_text matched modified state.now ++ codes "}")) }
 {
     out.extend_from_slice(b"{\"status\":")?;
-    print_updated_page(matched, modified, state, out)?;
-    out.push(b'}')?;
-    Ok(())
-}
-
-fn print_deleted_page(deleted: u64, more: bool, out: &mut Vec<u8>) -> Result<(), AllocError>
-    ensures { OnOk result (out.new.items ≡ out.old.items ++ deleted_text deleted more) }
-{
-    out.extend_from_slice(b"{\"deletedCount\":")?;
-    print_decimal(deleted, out)?;
-    print_more(more, out)?;
+    print_updated(matched, modified, state, out)?;
     out.push(b'}')?;
     Ok(())
 }
@@ -332,7 +303,7 @@ fn print_deletion(deleted: u64, more: bool, out: &mut Vec<u8>) -> Result<(), All
     ensures { OnOk result (out.new.items ≡ out.old.items ++ (codes "{\"status\":" ++ deleted_text deleted more ++ codes "}")) }
 {
     out.extend_from_slice(b"{\"status\":")?;
-    print_deleted_page(deleted, more, out)?;
+    print_deleted(deleted, more, out)?;
     out.push(b'}')?;
     Ok(())
 }
@@ -363,12 +334,12 @@ fn print_behind(reply: &Reply, out: &mut Vec<u8>) -> Result<(), AllocError>
         Reply::Found { view } => print_found(view, out),
         Reply::Listed { views, state } => print_listed(views.as_slice(), state, out),
         Reply::Counted { count, more } => print_count(*count, *more, out),
-        Reply::Updated { matched, modified } => print_update(*matched, *modified, out),
+        Reply::Updated { matched, modified } => print_update(*matched, *modified, &None, out),
         Reply::UpdatedMany {
             matched,
             modified,
             state,
-        } => print_update_of_many(*matched, *modified, state, out),
+        } => print_update(*matched, *modified, state, out),
         Reply::Deleted { deleted } => print_deletion(*deleted, false, out),
         Reply::DeletedMany { deleted, more } => print_deletion(*deleted, *more, out),
         Reply::Refused { errors, so_far } => print_refused(errors.as_slice(), so_far, out),
