@@ -117,7 +117,8 @@ refused keyspace place value =
     ∷ option_and_then command_refusal (command_at place.collection value)
     ∷ [])
 
--- this is the first refusal: that the text of a page state spells none is tested last
+-- This is the first refusal. That the text of a page state spells none is tested last: a command with a page state has no
+-- document.
 abbrev pub IsFirst : Option ErrorItem → Option (List ℕ) → ErrorItem → Type 0
 IsFirst refusal page error = (refusal ≡ Some error) ⊎ ((refusal ≡ None) × IsNoPage page × (error ≡ bad_page_state))
 

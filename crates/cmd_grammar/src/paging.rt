@@ -52,7 +52,7 @@ pub(crate) fn check_paging(alloc: Global, command: &Value) -> Result<(), Command
         return Err(refuse(command_limit(alloc, "skip", MOST_SKIPPED, skip)));
     }
     if paths > MOST_PATHS {
-        return Err(refuse(command_limit(alloc, "sort", 8, paths as u64)));
+        return Err(refuse(command_limit(alloc, "sort", MOST_PATHS as u64, paths as u64)));
     }
     Ok(())
 }

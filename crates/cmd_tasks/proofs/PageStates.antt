@@ -45,11 +45,11 @@ none_behind [] p rows h = ap (λ (n : ℕ). state_by p n (last_of (map found_row
 pub state_is : (sort : SortKeys) (p : Paging) (rows : List Version) (row : Version) (given : ℕ) → sort ≡ [] → has_next p (length rows) ≡ true → given_of p.page ≡ given → slice_get rows (length rows - 1) ≡ Some row
     → Some (state_text (min (given + 20) (2 ^ 63 - 1)) (id_of row.doc)) ≡ state_after sort p (map found_row rows)
 state_is sort p rows row given none full given_is last = sym (
-  ap (λ (z : SortKeys). state_after z p (map found_row rows)) none
-  ∙ ((λ i. state_by p (length-map rows found_row i) (found_last i))
-  ∙ (ap (λ (b : Bool). if b then option_map (λ (x : Found). state_text (min (given_of p.page + length rows) (2 ^ 63 - 1)) x.id) (Some (found_row row)) else None) full
-  ∙ (λ i. Some (state_text (min (given_is i + full_page p (length rows) full i) (2 ^ 63 - 1)) (id_of row.doc)))))
-)
+    ap (λ (z : SortKeys). state_after z p (map found_row rows)) none
+    ∙ ((λ i. state_by p (length-map rows found_row i) (found_last i))
+    ∙ (ap (λ (b : Bool). if b then option_map (λ (x : Found). state_text (min (given_of p.page + length rows) (2 ^ 63 - 1)) x.id) (Some (found_row row)) else None) full
+    ∙ (λ i. Some (state_text (min (given_is i + full_page p (length rows) full i) (2 ^ 63 - 1)) (id_of row.doc)))))
+    )
   where
     found_last : last_of (map found_row rows) ≡ Some (found_row row)
     found_last = last_found rows ∙ ap (option_map found_row) (sym (last_is rows) ∙ last)

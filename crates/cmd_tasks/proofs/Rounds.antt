@@ -168,8 +168,15 @@ module _ (base : Base) (coll : Name) (k : ℕ) (moment : ℤ) (u : Updating) (on
       told_first = chosen_is ∙ first_told base coll f sort (s ∷ round earlier) listed sortable
 
       found_so : (r : Reply) → MatchOption (first (in_order sort (shown base coll f (s ∷ round earlier)))) (r ≡ reply.Updated 0 0) (λ x. TellsUnwritten (apply u.updates x.doc moment false) x.doc r) → Serves base coll k moment (updating u) (s ∷ earlier) r
-      found_so r told = inl (part, inr (inr (accepted_is, few, subst (λ (z : List Sight). IsFound base coll k f sort 1 z (λ xs. MatchOption (first xs) (r ≡ reply.Updated 0 0) (λ x. TellsUnwritten (apply u.updates x.doc moment false) x.doc r)) r) (sym round_is)
-          (listed, inr (sortable, told)))))
+      found_so r told = inl (
+        part,
+        inr (inr (
+          accepted_is,
+          few,
+          subst (λ (z : List Sight). IsFound base coll k f sort 1 z (λ xs. MatchOption (first xs) (r ≡ reply.Updated 0 0) (λ x. TellsUnwritten (apply u.updates x.doc moment false) x.doc r)) r) (sym round_is)
+              (listed, inr (sortable, told)),
+        )),
+      )
 
       takes : (v : Version) (o : Moved) → option_map found_row (first p'.kept.items) ≡ Some (found_row v) → Takes u item v o → Leads base coll k moment H' (Choosing u p) earlier o
       takes v (m.Goes i w) is t = subst (λ (z : Item × State). Leads base coll k moment H' (Choosing u p) earlier (m.Goes z.0 z.1)) (λ j. (sym t.3 j, sym t.4 j)) (
@@ -200,13 +207,17 @@ module _ (base : Base) (coll : Name) (k : ℕ) (moment : ℤ) (u : Updating) (on
     -- more are found than are sorted
     pub choose_many : (r : Reply) → IsEnded base coll None u.search (s ∷ round earlier) → has_too_many base coll None u.search (s ∷ round earlier) ≡ true → Refuses errors.too_many_to_sort r → Serves base coll k moment (updating u) (s ∷ earlier) r
     choose_many r ended many refuses = answered base coll k moment (updating u) (s ∷ earlier) r _ part accepted_is
-        (λ t. inr (inr (accepted_is, few, subst (λ (z : List Sight). IsFound base coll k f sort 1 z (λ xs. MatchOption (first xs) (r ≡ reply.Updated 0 0) (λ x. TellsUnwritten (apply u.updates x.doc moment false) x.doc r)) r) (sym round_is)
-        (subst (λ (n : ℕ). IsListed base coll f (bound sort n) (s ∷ round earlier)) one ended, inl (many, t))))) refuses
+        (λ t. inr (inr (
+          accepted_is,
+          few,
+          subst (λ (z : List Sight). IsFound base coll k f sort 1 z (λ xs. MatchOption (first xs) (r ≡ reply.Updated 0 0) (λ x. TellsUnwritten (apply u.updates x.doc moment false) x.doc r)) r) (sym round_is)
+              (subst (λ (n : ℕ). IsListed base coll f (bound sort n) (s ∷ round earlier)) one ended, inl (many, t)),
+        ))) refuses
 
   pub choose_stopped : (item : Item) (r : Reply) → Seeks base coll None u.search k H' (round earlier) (sr.Stopped item r) → Serves base coll k moment (updating u) (sight H' item ∷ earlier) r
   choose_stopped item r h = ⊎_elim
       (λ stops. stopped_serves base coll k moment (updating u) earlier (sight H' item) stops.0 r way.0
-        (stops_more base coll k _ (Marks base coll k (updating u) earlier) (IsToWrite base coll k (updating u) earlier) item (sight H' item) stops.0
-        (λ a t z. match_none (chosen base coll k f sort earlier) _ _ way.1.1 z) (not_some (chosen base coll k f sort earlier) way.1.1) stops.1) stops.2)
+      (stops_more base coll k _ (Marks base coll k (updating u) earlier) (IsToWrite base coll k (updating u) earlier) item (sight H' item) stops.0
+      (λ a t z. match_none (chosen base coll k f sort earlier) _ _ way.1.1 z) (not_some (chosen base coll k f sort earlier) way.1.1) stops.1) stops.2)
       (λ many. choose_many item many.0 r many.1 many.2 many.3)
       h

@@ -14,13 +14,13 @@ use Rattle.reply_env.specs.declared.reply.Reply.TheVariants.{NoMemory}
 use Rattle.cmd_grammar.specs.Commands.{command_tree}
 use Rattle.cmd_tasks.specs.Served.{IsServed}
 use Rattle.cmd_tasks.specs.Session.{Exchange, asks_for, IsSession, IsAnswered, Records, AreCounted}
-use Rattle.cmd_tasks.specs.Moves.{Risen}
+use Rattle.cmd_tasks.specs.Looking.{Risen}
 use Rattle.cmd_tasks.specs.Stands.{StandsOn, IsSame, Adds, IfDone, exchange, answered_by}
 use Rattle.cmd_tasks.specs.declared.task.Task.{Task}
 use Rattle.cmd_tasks.specs.declared.task.Served.{Served}
 use Rattle.cmd_tasks.specs.declared.trace.Item.{Item}
 use Rattle.cmd_tasks.specs.declared.work.State.{State}
-use Rattle.cmd_tasks.specs.declared.work.State.TheVariants.{Inserting, Selecting, Counting, Choosing, Changing, Done}
+use Rattle.cmd_tasks.specs.declared.work.State.TheVariants.{Inserting, Selecting, Listing, Counting, Choosing, Changing, Done}
 use Rattle.cmd_tasks.proofs.Sessions.{session_begins, session_steps, session_ends}
 use Rattle.cmd_tasks.proofs.Standing.{stands_served}
 
@@ -148,17 +148,19 @@ module _ {K : Type 0} (failed : K → ℕ) where
 
 pub done_more : (s : State) (P Q : Reply → Type 0) → ((r : Reply) → P r → Q r) → IfDone s P → IfDone s Q
 done_more (Inserting d) P Q f h = h
-done_more (Selecting w last) P Q f h = h
+done_more (Selecting search p shows) P Q f h = h
+done_more (Listing search p part) P Q f h = h
 done_more (Counting w last n) P Q f h = h
-done_more (Choosing u last) P Q f h = h
+done_more (Choosing u p) P Q f h = h
 done_more (Changing u read d) P Q f h = h
 done_more (Done r) P Q f h = f r h
 
 done_with : (s : State) (P : Reply → Type 0) → IfDone s P → (r : Reply) × (s ≡ Done r) × P r
 done_with (Inserting d) P h = absurd h
-done_with (Selecting w last) P h = absurd h
+done_with (Selecting search p shows) P h = absurd h
+done_with (Listing search p part) P h = absurd h
 done_with (Counting w last n) P h = absurd h
-done_with (Choosing u last) P h = absurd h
+done_with (Choosing u p) P h = absurd h
 done_with (Changing u read d) P h = absurd h
 done_with (Done r) P h = (r, refl, h)
 

@@ -138,11 +138,7 @@ fn state_after_rows(
 }
 
 /// The views of these rows.
-fn views_of(
-    alloc: Global,
-    projection: &Projection,
-    rows: &[Row],
-) -> Result<Vec<Value>, ViewFault>
+fn views_of(alloc: Global, projection: &Projection, rows: &[Row]) -> Result<Vec<Value>, ViewFault>
     ensures { IfOk result (λ views. map tree views.items ≡ map (λ v. view projection.now v.doc) rows.now) }
 {
     let mut views = Vec::with_capacity(alloc, rows.len())?;

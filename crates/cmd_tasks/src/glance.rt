@@ -172,11 +172,18 @@ fn gone(alloc: Global, at: u64, after: Option<DocId>, coll: &CollName) -> Glance
     Glance::Ended { item, reply }
 }
 
+/// The reply that tells a failed call.
+pub(crate) fn fault_reply(alloc: Global, before: u64, after: u64) -> Reply
+    ensures { Refuses (errors.store_fault before after) result }
+{
+    refuse(alloc, store_fault(alloc, before, after))
+}
+
 /// No page, since the call failed.
 fn faulted(alloc: Global, at: u64, before: u64, after: u64) -> Glance
     ensures { StopsWith (Faulted at before after) (Refuses (errors.store_fault before after)) result }
 {
-    let reply = refuse(alloc, store_fault(alloc, before, after));
+    let reply = fault_reply(alloc, before, after);
     let item = Item::Faulted { at, before, after };
     Glance::Ended { item, reply }
 }

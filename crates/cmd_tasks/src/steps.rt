@@ -16,15 +16,13 @@ ghost use Rattle.cmd_tasks.specs.Moves.{Steps, Promises, count_to, EndsSo, EndsM
 ghost use Rattle.cmd_tasks.specs.declared.trace.Item.TheVariants.{Lost, Faulted};
 ghost use Rattle.reply_env.specs.declared.reply.ErrorItem.{ErrorItem as Error};
 
-use crate::glance::{glance, refuse};
+use crate::glance::{fault_reply, glance, refuse};
 use crate::trace::Item;
 use crate::work::{Glance, Moved, State, Wanted};
 use col_keeper::{Keeper, limits_bound_ids};
 use doc_paths::CollName;
 use json_tree::{Doc, DocId, TreeFault, Value};
-use reply_env::{
-    ErrorItem, Reply, ReplyFault, already_exists, no_collection, store_fault, versions_spent,
-};
+use reply_env::{ErrorItem, Reply, ReplyFault, already_exists, no_collection, versions_spent};
 use std::alloc::Global;
 use store_core::{Change, Store, WriteOutcome};
 
@@ -103,7 +101,7 @@ pub(crate) fn marked(
 pub(crate) fn failed(alloc: Global, at: u64, before: u64, after: u64) -> Moved
     ensures { EndsSo (Faulted at before after) (Refuses (errors.store_fault before after)) result }
 {
-    let reply = refuse(alloc, store_fault(alloc, before, after));
+    let reply = fault_reply(alloc, before, after);
     let item = Item::Faulted { at, before, after };
     Moved::Ends { item, reply }
 }

@@ -103,7 +103,7 @@ fn attempt(alloc: Global, row: &Row, change: Change) -> Taken {
 }
 
 /// Counts the documents that need no write, up to the first that does.
-fn settled(alloc: Global, doing: &Doing, stand: Stand) -> Settled {
+fn settle(alloc: Global, doing: &Doing, stand: Stand) -> Settled {
     let mut stand = stand;
     'rows: while stand.matched < MOST_COUNTED {
         let row = match stand.queue.pop() {
@@ -220,7 +220,7 @@ fn untaken(alloc: Global, item: Item, many: Many, stand: Stand) -> Moved {
 
 /// Goes on behind an item, as far as nothing is to be asked of the store.
 pub(crate) fn go_on(alloc: Global, item: Item, many: Many, stand: Stand) -> Moved {
-    let Settled { stand, taken } = settled(alloc, &many.doing, stand);
+    let Settled { stand, taken } = settle(alloc, &many.doing, stand);
     match taken {
         Taken::Attempt(attempt) => Moved::Goes {
             item,

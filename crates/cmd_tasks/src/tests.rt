@@ -1,5 +1,5 @@
 // Requests over a keeper in memory: their replies, and what they saw and did.
-ghost use Rattle.std.specs.Prelude.{◌≡◌, ◌≢◌, ◌<◌, ◌++◌, List, IfOk, IfSome};
+ghost use Rattle.std.specs.Prelude.{◌≡◌, ◌≢◌, ◌<◌, ◌-◌, ◌^◌, ◌++◌, List, IfOk, IfSome};
 ghost use Rattle.store_core.specs.Counts.{opened_in, AllBy};
 ghost use Rattle.store_core.specs.Store.{SameBase};
 ghost use Rattle.store_core.specs.declared.entry.Entry.{Entry as Journaled};
@@ -37,10 +37,12 @@ fn command_of(alloc: Global, body: &str) -> Result<Option<Command>, Fail>
     }
 }
 
-// A store with the collection `c`, over a keeper of which one call fails.
-fn opened(alloc: Global, fails: u64) -> Result<Option<Store<MemKeeper>>, Fail> {
+// A store with the collection `c`, over a keeper of which one call fails, and whose last number is this one.
+fn opened(alloc: Global, fails: u64, last: u64) -> Result<Option<Store<MemKeeper>>, Fail>
+    requires { last < 2 ^ 63 - 1 }
+{
     let names = [CollName::read(alloc, "c")?];
-    let keeper = MemKeeper::new(alloc, Vec::from_array(alloc, [fails])?, 0);
+    let keeper = MemKeeper::new(alloc, Vec::from_array(alloc, [fails])?, last);
     match Store::open(alloc, keeper, &names) {
         Ok(store) => Ok(Some(store)),
         Err(
@@ -177,27 +179,52 @@ fn first_wrong(
 
 const INCREMENT: &str = r#"{"updateOne":{"filter":{"_id":"a"},"update":{"$inc":{"n":1}}}}"#;
 
-// How many times another session writes behind the looks, what is answered, and the items with their points.
-const RACES: [(usize, &str, &str); 3] = [
+// A request, how many times another session writes behind its looks, what is answered, and the items with their points.
+type Race = (&'static str, usize, &'static str, &'static str);
+
+// The last two: of two documents with one sort key, the first is chosen, changed by another session, and lost; in the
+// new round the other one comes first.
+const RACES: [Race; 6] = [
     (
+        INCREMENT,
         0,
         r#"{"status":{"matchedCount":1,"modifiedCount":1}}"#,
         "looked 4 wrote 4 ",
     ),
     (
+        INCREMENT,
         1,
         r#"{"status":{"matchedCount":1,"modifiedCount":1}}"#,
         "looked 7 lost 8 looked 8 wrote 8 ",
     ),
     (
+        INCREMENT,
         4,
         r#"{"errors":[{"message":"Lost to other writers: 4>5, 5>6, 6>7, 7>8","errorCode":"CONCURRENCY_FAILURE"}]}"#,
         "looked 11 lost 12 looked 12 lost 13 looked 13 lost 14 looked 14 lost 15 ",
     ),
+    (
+        r#"{"insertOne":{"document":{"_id":"b","n":8}}}"#,
+        0,
+        r#"{"status":{"insertedIds":["b"]}}"#,
+        "wrote 17 ",
+    ),
+    (
+        r#"{"updateOne":{"filter":{},"sort":{"n":1},"update":{"$set":{"won":true}}}}"#,
+        1,
+        r#"{"status":{"matchedCount":1,"modifiedCount":1}}"#,
+        "looked 20 lost 21 looked 21 wrote 21 ",
+    ),
+    (
+        r#"{"findOne":{"filter":{"won":true}}}"#,
+        0,
+        r#"{"data":{"document":{"_id":"b","n":8,"won":true}}}"#,
+        "looked 24 ",
+    ),
 ];
 
 // The fifth call of the keeper fails: the first lists, the second makes the collection.
-const ROWS: [Row; 9] = [
+const ROWS: [Row; 14] = [
     (
         "c",
         r#"{"insertOne":{"document":{"_id":"a","n":1}}}"#,
@@ -261,12 +288,47 @@ const ROWS: [Row; 9] = [
         "looked",
         11,
     ),
+    (
+        "c",
+        r#"{"insertOne":{"document":{"_id":"b","n":0,"s":"x"}}}"#,
+        r#"{"status":{"insertedIds":["b"]}}"#,
+        "wrote",
+        12,
+    ),
+    (
+        "c",
+        r#"{"findOne":{"sort":{"n":1},"projection":{"s":1}}}"#,
+        r#"{"data":{"document":{"_id":"b","s":"x"}}}"#,
+        "looked",
+        14,
+    ),
+    (
+        "c",
+        r#"{"find":{"filter":{},"sort":{"n":-1},"projection":{"_id":1}}}"#,
+        r#"{"data":{"documents":[{"_id":"a"},{"_id":"b"}],"nextPageState":null}}"#,
+        "looked",
+        15,
+    ),
+    (
+        "c",
+        r#"{"find":{"sort":{"n":1},"projection":{"_id":1},"options":{"skip":1}}}"#,
+        r#"{"data":{"documents":[{"_id":"a"}],"nextPageState":null}}"#,
+        "looked",
+        16,
+    ),
+    (
+        "c",
+        r#"{"find":{"projection":{"_id":1},"options":{"limit":1}}}"#,
+        r#"{"data":{"documents":[{"_id":"a"}],"nextPageState":null}}"#,
+        "looked",
+        17,
+    ),
 ];
 
 #[test]
 fn requests_see_and_do_what_they_say(rt: HostRuntime) -> Result<(), Fail> {
     let alloc = rt.alloc();
-    let Some(mut store) = opened(alloc, 5)? else {
+    let Some(mut store) = opened(alloc, 5, 0)? else {
         panic!(rt; "not opened");
     };
     let wrong = first_wrong(alloc, &mut store, &ROWS);
@@ -275,36 +337,32 @@ fn requests_see_and_do_what_they_say(rt: HostRuntime) -> Result<(), Fail> {
     Ok(())
 }
 
-// An update of the one document, behind whose first looks another session writes, so many times.
-fn updated(
+// A request, behind whose first looks another session writes, so many times.
+fn contested(
     alloc: Global,
     store: &mut Store<MemKeeper>,
     session: u64,
     other: u64,
-    times: usize,
+    race: Race,
 ) -> Result<Option<Served>, Fail>
     requires known { (session < opened_in store.old.journal) × (other < opened_in store.old.journal) }
     requires apart { session ≢ other }
 {
     let coll = CollName::read(alloc, "c")?;
-    let Some(command) = command_of(alloc, INCREMENT)? else {
+    let Some(command) = command_of(alloc, race.0)? else {
         return Ok(None);
     };
     let task = Task::new(alloc, session, coll, 0, command);
-    contended(alloc, store, task, other, times)
+    contended(alloc, store, task, other, race.1)
 }
 
 // The same by two sessions that are opened for it.
-fn raced(
-    alloc: Global,
-    store: &mut Store<MemKeeper>,
-    times: usize,
-) -> Result<Option<Served>, Fail> {
+fn raced(alloc: Global, store: &mut Store<MemKeeper>, race: Race) -> Result<Option<Served>, Fail> {
     let Ok(other) = store.open_session(alloc) else {
         return Ok(None);
     };
     match store.open_session(alloc) {
-        Ok(session) => updated(alloc, store, session, other, times),
+        Ok(session) => contested(alloc, store, session, other, race),
         Err(_) => Ok(None),
     }
 }
@@ -322,24 +380,20 @@ fn items_of(alloc: Global, trace: &Trace) -> Result<String, Fail> {
 }
 
 // Whether a race ends so.
-fn ends_so(
-    alloc: Global,
-    store: &mut Store<MemKeeper>,
-    race: (usize, &str, &str),
-) -> Result<bool, Fail> {
-    let Some(served) = raced(alloc, store, race.0)? else {
+fn ends_so(alloc: Global, store: &mut Store<MemKeeper>, race: Race) -> Result<bool, Fail> {
+    let Some(served) = raced(alloc, store, race)? else {
         return Ok(false);
     };
     let text = text_of(alloc, &served.reply)?;
     let items = items_of(alloc, &served.trace)?;
-    Ok(text.as_slice() == race.1.as_bytes() && items.as_str() == race.2)
+    Ok(text.as_slice() == race.2.as_bytes() && items.as_str() == race.3)
 }
 
 // The place of the first race that doesn't end so, one behind the other on one store.
 fn first_lost(
     alloc: Global,
     store: &mut Store<MemKeeper>,
-    races: &[(usize, &str, &str)],
+    races: &[Race],
 ) -> Result<Option<usize>, Fail> {
     for i in 0..races.len() {
         if !ends_so(alloc, store, races[i])? {
@@ -352,13 +406,159 @@ fn first_lost(
 #[test]
 fn an_update_is_tried_four_times(rt: HostRuntime) -> Result<(), Fail> {
     let alloc = rt.alloc();
-    let Some(mut store) = opened(alloc, 99)? else {
+    let Some(mut store) = opened(alloc, 99, 0)? else {
         panic!(rt; "not opened");
     };
     let wrong = match first_wrong(alloc, &mut store, &ROWS[..1]) {
         Ok(None) => first_lost(alloc, &mut store, &RACES),
         found => found,
     };
+    let _keeper = store.into_keeper();
+    assert_eq!(rt; wrong?, None);
+    Ok(())
+}
+
+// What a new session of the collection `c` is answered, and its items; nothing where it has no session.
+fn asked(alloc: Global, store: &mut Store<MemKeeper>, body: &str) -> Result<Option<Served>, Fail> {
+    let coll = CollName::read(alloc, "c")?;
+    let Some(command) = command_of(alloc, body)? else {
+        return Ok(None);
+    };
+    match store.open_session(alloc) {
+        Ok(session) => Ok(Some(served(alloc, store, session, coll, command))),
+        Err(_) => Ok(None),
+    }
+}
+
+// The words of its items, and its reply.
+fn told(alloc: Global, store: &mut Store<MemKeeper>, body: &str) -> Result<String, Fail> {
+    let mut told = String::new(alloc);
+    let Some(served) = asked(alloc, store, body)? else {
+        return Ok(told);
+    };
+    for place in 0..served.trace.len() {
+        if let Some(item) = served.trace.item(place) {
+            told.push_str(tells(item).0)?;
+            told.push_str(" ")?;
+        }
+    }
+    told.push_str(str::from_utf8(text_of(alloc, &served.reply)?.as_slice()).unwrap_or("?"))?;
+    Ok(told)
+}
+
+// Documents m100, m101 and so on, the sixth of which has the least n.
+fn fill(alloc: Global, store: &mut Store<MemKeeper>, count: u64) -> Result<(), Fail> {
+    for i in 100..100 + count {
+        let n = if i < 105 { 105 - i } else { i - 105 };
+        let body = format!(in alloc;
+            "{{\"insertOne\":{{\"document\":{{\"_id\":\"m{i}\",\"n\":{n}}}}}}}"
+        )?;
+        told(alloc, store, body.as_str())?;
+    }
+    Ok(())
+}
+
+// The body that asks for the page behind this one.
+fn page_behind(alloc: Global, served: &Served) -> Result<String, Fail> {
+    match &served.reply {
+        Reply::Listed {
+            views: _,
+            state: Some(state),
+        } => {
+            let state = state.as_str();
+            Ok(format!(in alloc;
+                "{{\"find\":{{\"projection\":{{\"_id\":1}},\"options\":{{\"limit\":22,\"pageState\":\"{state}\"}}}}}}"
+            )?)
+        }
+        _ => Ok(String::new(alloc)),
+    }
+}
+
+// Two pages, between which documents are inserted before the last one that was given, and behind it.
+fn two_pages(alloc: Global, store: &mut Store<MemKeeper>) -> Result<String, Fail> {
+    let first = r#"{"find":{"projection":{"_id":1},"options":{"limit":22}}}"#;
+    let Some(served) = asked(alloc, store, first)? else {
+        return Ok(String::new(alloc));
+    };
+    told(alloc, store, r#"{"insertOne":{"document":{"_id":"a"}}}"#)?;
+    told(
+        alloc,
+        store,
+        r#"{"insertOne":{"document":{"_id":"m1195"}}}"#,
+    )?;
+    let body = page_behind(alloc, &served)?;
+    told(alloc, store, body.as_str())
+}
+
+// A sort whose first document stands on an earlier page of the keeper than the last one.
+fn sorted_update(alloc: Global, store: &mut Store<MemKeeper>) -> Result<String, Fail> {
+    let body =
+        r#"{"updateOne":{"filter":{"n":{"$gte":0}},"sort":{"n":1},"update":{"$set":{"least":true}}}}"#;
+    let mut both = told(alloc, store, body)?;
+    let found = told(alloc, store, r#"{"findOne":{"filter":{"least":true}}}"#)?;
+    both.push_str(found.as_str())?;
+    Ok(both)
+}
+
+fn pages_and_sort(alloc: Global, store: &mut Store<MemKeeper>) -> Result<(String, String), Fail> {
+    fill(alloc, store, 70)?;
+    let pages = two_pages(alloc, store)?;
+    let sorted = sorted_update(alloc, store)?;
+    Ok((pages, sorted))
+}
+
+#[test]
+fn pages_and_sorts_over_many_documents(rt: HostRuntime) -> Result<(), Fail> {
+    let alloc = rt.alloc();
+    let Some(mut store) = opened(alloc, 9_999, 0)? else {
+        panic!(rt; "not opened");
+    };
+    let told = pages_and_sort(alloc, &mut store);
+    let _keeper = store.into_keeper();
+    let (pages, sorted) = told?;
+    assert_eq!(rt;
+        pages.as_str(),
+        r#"looked {"data":{"documents":[{"_id":"m1195"},{"_id":"m120"}],"nextPageState":null}}"#
+    );
+    assert_eq!(rt;
+        sorted.as_str(),
+        r#"looked looked wrote {"status":{"matchedCount":1,"modifiedCount":1}}looked {"data":{"document":{"_id":"m105","n":0,"least":true}}}"#
+    );
+    Ok(())
+}
+
+// Where no number is left, a write is told so, also where its collection is gone; a read isn't.
+const SPENT: [Row; 3] = [
+    (
+        "zz",
+        r#"{"insertOne":{"document":{"_id":"a"}}}"#,
+        r#"{"errors":[{"message":"No version numbers are left","errorCode":"VERSIONS_SPENT"}]}"#,
+        "looked",
+        1,
+    ),
+    (
+        "zz",
+        r#"{"find":{}}"#,
+        r#"{"errors":[{"message":"Collection zz does not exist","errorCode":"COLLECTION_NOT_EXIST"}]}"#,
+        "looked",
+        2,
+    ),
+    (
+        "zz",
+        r#"{"updateOne":{"filter":{},"update":{"$set":{"n":1}}}}"#,
+        r#"{"errors":[{"message":"Collection zz does not exist","errorCode":"COLLECTION_NOT_EXIST"}]}"#,
+        "looked",
+        3,
+    ),
+];
+
+#[test]
+fn numbers_end(rt: HostRuntime) -> Result<(), Fail> {
+    let alloc = rt.alloc();
+    let Some(mut store) = opened(alloc, 99, 9_223_372_036_854_775_806)? else {
+        panic!(rt; "not opened");
+    };
+    let wrong = first_wrong(alloc, &mut store, &SPENT);
     let _keeper = store.into_keeper();
     assert_eq!(rt; wrong?, None);
     Ok(())

@@ -240,7 +240,7 @@ fn played(
 
 // Whether a scene goes so, on a store of its own.
 fn goes_so(alloc: Global, scene: &Scene) -> Result<bool, Fail> {
-    let Some(mut store) = opened(alloc, 999)? else {
+    let Some(mut store) = opened(alloc, 999, 0)? else {
         return Ok(false);
     };
     let played = played(alloc, &mut store, scene);

@@ -1,6 +1,5 @@
 use Rattle.std.proofs.Common.{refl}
-use Rattle.reply_env.specs.Messages as errors
 use Rattle.cmd_tasks.proofs.glance.faulted.Goals as goal
 
 pub returns : goal.returns
-returns c = (refl, c.refuse-reply.ensures (errors.store_fault c.args.before c.args.after) c.store_fault.ensures)
+returns c = (refl, c.fault_reply-reply.ensures)
