@@ -317,8 +317,10 @@ class Inputs:
         if command == "updateOne":
             return self.update_one()[:-1] + extra + "}"
         parts = ['"filter":' + self.filter()]
+        if command in ("findOne", "deleteOne"):
+            parts += self.often(0.5, '"sort":' + self.sort())
         if command == "findOne":
-            parts += self.often(0.5, '"sort":' + self.sort()) + self.often(0.5, '"projection":' + self.projection())
+            parts += self.often(0.5, '"projection":' + self.projection())
         return "{" + ",".join(parts) + extra + "}"
 
     def body(self, command):
@@ -358,7 +360,8 @@ class Inputs:
         lists = self.rng.random() < 0.5
         lines = []
         for i in range(count):
-            lines.append(self.line([1, 1, 2, 1, 1] if not lists else [8, 0, 1, 0, 1] if i < count // 3 else [1, 2, 9, 1, 2]))
+            even, many, searches = [4, 4, 8, 4, 4, 1], [32, 0, 4, 0, 4, 1], [4, 8, 36, 4, 8, 1]
+            lines.append(self.line(even if not lists else many if i < count // 3 else searches))
             self.keep_page(service, lines[-1])
         for _ in range(self.rng.randint(0, 4)):
             lines.insert(self.rng.randrange(len(lines) + 1), self.rng.choice([b"", b"\r"]))
@@ -381,6 +384,7 @@ class Inputs:
                 '{"find":{%s,"sort":{%s},"projection":{"t":1}}}' % (wanted, keys),
                 '{"findOne":{%s,"sort":{%s}}}' % (wanted, keys),
                 '{"updateOne":{%s,"sort":{%s},"update":{"$inc":{"n":1}}}}' % (wanted, keys),
+                '{"deleteOne":{"filter":{"_id":{"$lt":0}},"sort":{%s}}}' % keys,
                 '{"find":{%s,"options":{"pageState":"%s"}}}' % (wanted, state),
                 '{"countDocuments":{%s}}' % wanted]))
         return lines

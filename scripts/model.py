@@ -275,7 +275,8 @@ ROWS = {"insertOne": {"document": ("object", True)},
         "findOne": {"filter": OBJECT, "sort": OBJECT, "projection": OBJECT},
         "find": {"filter": OBJECT, "sort": OBJECT, "projection": OBJECT},
         "countDocuments": {"filter": OBJECT},
-        "updateOne": {"filter": OBJECT, "update": ("object", True), "sort": OBJECT}}
+        "updateOne": {"filter": OBJECT, "update": ("object", True), "sort": OBJECT},
+        "deleteOne": {"filter": OBJECT, "sort": OBJECT}}
 
 
 def is_bound(value):
@@ -394,7 +395,8 @@ class Service:
         rows = self.rows[collection]
         if name == "insertOne":
             return self.insert(rows, wanted.get("document"))
-        serve = {"findOne": self.find_one, "find": self.find, "countDocuments": self.count, "updateOne": self.update}
+        serve = {"findOne": self.find_one, "find": self.find, "countDocuments": self.count, "updateOne": self.update,
+                 "deleteOne": self.delete}
         return serve[name](rows, search)
 
     def next_number(self):
@@ -441,6 +443,13 @@ class Service:
         if changed:
             self.write(rows, document)
         return '{"status":{"matchedCount":%d,"modifiedCount":%d}}' % (len(found[:1]), changed)
+
+    def delete(self, rows, search):
+        found = search.found(rows)
+        if found:
+            self.last = self.next_number()
+            del rows[id_key(found[0].get("_id"))]
+        return '{"status":{"deletedCount":%d}}' % len(found[:1])
 
 
 # ---- lines ----

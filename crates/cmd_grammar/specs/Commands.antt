@@ -12,7 +12,7 @@ use Rattle.view_sort.specs.Sort.{SortKeys}
 use Rattle.view_sort.specs.declared.show.Show.{Show}
 use Rattle.view_sort.specs.declared.page.PageState.{PageState}
 use Rattle.cmd_grammar.specs.declared.command.Command.{Command}
-use Rattle.cmd_grammar.specs.declared.command.Command.TheVariants.{InsertOne, FindOne, Find, CountDocuments, UpdateOne}
+use Rattle.cmd_grammar.specs.declared.command.Command.TheVariants.{InsertOne, FindOne, Find, CountDocuments, UpdateOne, DeleteOne}
 
 -- paths of a projection, each with what is shown of it; none where the whole document is shown
 abbrev pub Shows : Type 0
@@ -30,6 +30,7 @@ pub data CommandTree : Type 0 where
   find : FilterTree → SortKeys → Shows → Paging → CommandTree
   count_documents : FilterTree → CommandTree
   update_one : FilterTree → List Clause → SortKeys → CommandTree
+  delete_one : FilterTree → SortKeys → CommandTree
 
 -- the tree that a command of the program is
 abbrev pub command_tree : Command → CommandTree
@@ -38,6 +39,7 @@ command_tree (FindOne filter sort projection) = find_one (filter_tree filter) so
 command_tree (Find filter sort projection limit skip page) = find (filter_tree filter) sort projection (record { limit = limit; skip = skip; page = page })
 command_tree (CountDocuments filter) = count_documents (filter_tree filter)
 command_tree (UpdateOne filter updates sort) = update_one (filter_tree filter) updates sort
+command_tree (DeleteOne filter sort) = delete_one (filter_tree filter) sort
 
 -- the filter can be planned, and its operands are written as they are read
 pub record IsAskableFilter (f : FilterTree) : Type 0 where
@@ -62,3 +64,4 @@ IsAskable (find_one f sort shows) = IsAskableFilter f
 IsAskable (find f sort shows paging) = IsAskableFilter f × IsAskablePaging paging
 IsAskable (count_documents f) = IsAskableFilter f
 IsAskable (update_one f updates sort) = IsAskableFilter f
+IsAskable (delete_one f sort) = IsAskableFilter f

@@ -2,7 +2,7 @@
 use Rattle.std.specs.Prelude.{ℕ, List, [], ◌∷◌, Option, Some, None, codes, if◌then◌else◌}
 use Rattle.std.specs.Str.{bytes_eq}
 use Rattle.cmd_grammar.specs.declared.name.Name.{Name}
-use Rattle.cmd_grammar.specs.declared.name.Name.TheVariants.{InsertOne, FindOne, Find, CountDocuments, UpdateOne}
+use Rattle.cmd_grammar.specs.declared.name.Name.TheVariants.{InsertOne, FindOne, Find, CountDocuments, UpdateOne, DeleteOne}
 
 abbrev pub command_text : Name → List ℕ
 command_text InsertOne = codes "insertOne"
@@ -10,6 +10,7 @@ command_text FindOne = codes "findOne"
 command_text Find = codes "find"
 command_text CountDocuments = codes "countDocuments"
 command_text UpdateOne = codes "updateOne"
+command_text DeleteOne = codes "deleteOne"
 
 abbrev pub named_among : List Name → List ℕ → Option Name
 named_among [] text = None
@@ -17,4 +18,4 @@ named_among (name ∷ names) text = if bytes_eq (command_text name) text then So
 
 -- the command of this name
 abbrev pub command_named : List ℕ → Option Name
-command_named text = named_among (InsertOne ∷ FindOne ∷ Find ∷ CountDocuments ∷ UpdateOne ∷ []) text
+command_named text = named_among (InsertOne ∷ FindOne ∷ Find ∷ CountDocuments ∷ UpdateOne ∷ DeleteOne ∷ []) text

@@ -37,4 +37,6 @@ pub enum Command {
         updates: Updates,
         sort: Sort,
     },
+    /// To delete the first document that matches, in the order of the sort.
+    DeleteOne { filter: Filter, sort: Sort },
 }

@@ -12,6 +12,7 @@ pub(crate) enum Name {
     Find,
     CountDocuments,
     UpdateOne,
+    DeleteOne,
 }
 
 // In the order of the table of names; those that aren't built have none.
@@ -23,7 +24,7 @@ const IN_ORDER: [Option<Name>; 15] = [
     Some(Name::CountDocuments),
     Some(Name::UpdateOne),
     None,
-    None,
+    Some(Name::DeleteOne),
     None,
     None,
     None,
@@ -61,6 +62,7 @@ impl Name {
             Name::Find => "find",
             Name::CountDocuments => "countDocuments",
             Name::UpdateOne => "updateOne",
+            Name::DeleteOne => "deleteOne",
         }
     }
 }

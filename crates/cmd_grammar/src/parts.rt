@@ -135,5 +135,9 @@ pub(crate) fn without_document(name: Name, parts: Parts) -> Option<Command>
             updates,
             sort: listing.sort,
         }),
+        Name::DeleteOne => Some(Command::DeleteOne {
+            filter,
+            sort: listing.sort,
+        }),
     }
 }

@@ -106,6 +106,11 @@ const UPDATE_ONE: Row = Row {
     options: Some(&[]),
 };
 
+const DELETE_ONE: Row = Row {
+    members: &[FILTER, SORT],
+    options: None,
+};
+
 /// The row of a command.
 pub(crate) fn table_row(name: Name) -> Row
     ensures { row_of result ≡ row name }
@@ -116,6 +121,7 @@ pub(crate) fn table_row(name: Name) -> Row
         Name::Find => FIND,
         Name::CountDocuments => COUNT_DOCUMENTS,
         Name::UpdateOne => UPDATE_ONE,
+        Name::DeleteOne => DELETE_ONE,
     }
 }
 

@@ -121,6 +121,7 @@ fn text_of(alloc: Global, read: Result<Command, CommandFault>) -> Result<Vec<u8>
         Ok(Command::Find { .. }) => Ok(b"find".to_vec(alloc)?),
         Ok(Command::CountDocuments { .. }) => Ok(b"countDocuments".to_vec(alloc)?),
         Ok(Command::UpdateOne { .. }) => Ok(b"updateOne".to_vec(alloc)?),
+        Ok(Command::DeleteOne { .. }) => Ok(b"deleteOne".to_vec(alloc)?),
         Err(CommandFault::Refused { code, message }) => refused_text(alloc, code, message),
         Err(CommandFault::NoMemory) => Ok(b"no memory".to_vec(alloc)?),
     }

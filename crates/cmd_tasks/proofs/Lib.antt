@@ -7,6 +7,7 @@ mod Lasts
 mod Fresh
 mod PageStates
 mod Glances
+mod Shorts
 mod Keeping
 mod Searching
 mod Requests
@@ -23,3 +24,4 @@ pub mod Contests
 mod Ascent
 mod Covering
 mod Client
+mod Deletions

@@ -27,7 +27,7 @@ use Rattle.store_core.specs.declared.entry.Change.TheVariants.{Insert}
 use Rattle.store_core.specs.declared.outcome.WriteOutcome.{WriteOutcome}
 use Rattle.store_core.specs.declared.outcome.WriteOutcome.TheVariants as w
 use Rattle.view_sort.specs.Sort.{SortKeys}
-use Rattle.cmd_grammar.specs.Commands.{CommandTree, Shows, Paging, insert_one, find_one, find, count_documents, update_one}
+use Rattle.cmd_grammar.specs.Commands.{CommandTree, Shows, Paging, insert_one, find_one, find, count_documents, update_one, delete_one}
 use Rattle.cmd_tasks.specs.Trace.{Sight, sight, now, shown, shown_by, IsLook, Looks}
 use Rattle.cmd_tasks.specs.Served.{IsPartOf, Serves, Stops, Marks, IsToWrite, IsMarked, IsInserted, IsTaken, TellsInserted, counted, accepted, one_if_wrote}
 use Rattle.cmd_tasks.specs.Pages.{found_row}
@@ -121,6 +121,7 @@ module _ (base : Base) (coll : Name) (k : ℕ) (moment : ℤ) where
   accepts (find f sort shows p) s h = find_accepts f sort shows p s h.0
   accepts (count_documents f) s h = count_accepts f s h.0
   accepts (update_one f u sort) s h = h.1.0
+  accepts (delete_one f sort) s h = h.1.0
 
   -- a request that is under way may end for want of memory
   pub cut_off : (c : CommandTree) (s : List Sight) → IsBegun base coll k moment c s → Serves base coll k moment c s (NoMemory 0)

@@ -64,7 +64,7 @@ pub choose_steps : (k low high : ℕ) (H H' : List Entry) (u : Updating) (p : Pr
 choose_steps k low high H H' u p item (v ∷ rs) o ready made c = takes_steps k low high H H' u p item v o made ready c
 choose_steps k low high H H' u p item [] o ready made c = subst (Steps k low high (Choosing u p) H H') (sym c) made
 
-same_version : (a b : Version) → Some a ≡ Some b → a ≡ b
+pub same_version : (a b : Version) → Some a ≡ Some b → a ≡ b
 same_version a b e = cc
 
 -- rows with a first one, and none
@@ -78,26 +78,26 @@ none_chosen u item (x ∷ rows) o e h = cc
 
 -- ---- a look in a round
 
-looked_round : (base : Base) (coll : Name) (f : FilterTree) (r : Rows) (from : Option Tree) (i : Item) (s : Sight) (rd : List Sight) → Looks base coll f r from i → round_with i s rd ≡ s ∷ rd
+pub looked_round : (base : Base) (coll : Name) (f : FilterTree) (r : Rows) (from : Option Tree) (i : Item) (s : Sight) (rd : List Sight) → Looks base coll f r from i → round_with i s rd ≡ s ∷ rd
 looked_round base coll f r from (Looked at after up page) s rd h = refl
 looked_round base coll f r from (Wrote at) s rd h = absurd h
 looked_round base coll f r from (Lost at read found) s rd h = absurd h
 looked_round base coll f r from (Faulted at before count) s rd h = absurd h
 
-looked_facts : (base : Base) (coll : Name) (f : FilterTree) (r : Rows) (from : Option Tree) (i : Item) → Looks base coll f r from i → (lost_by i ≡ []) × (one_if_wrote i ≡ 0) × (writes i ≡ false)
+pub looked_facts : (base : Base) (coll : Name) (f : FilterTree) (r : Rows) (from : Option Tree) (i : Item) → Looks base coll f r from i → (lost_by i ≡ []) × (one_if_wrote i ≡ 0) × (writes i ≡ false)
 looked_facts base coll f r from (Looked at after up page) h = (refl, refl, refl)
 looked_facts base coll f r from (Wrote at) h = absurd h
 looked_facts base coll f r from (Lost at read found) h = absurd h
 looked_facts base coll f r from (Faulted at before count) h = absurd h
 
 -- a listing that stops in the place of no write
-stops_more : (base : Base) (coll : Name) (k : ℕ) (P Q : Option Tree → Option Tree → Type 0) (W : Type 0) (i : Item) (s : Sight) (error : ErrorItem) → ((a t : Option Tree) → P a t → Q a t) → (W → ⊥) → Stops base coll k P ⊥ i s error → Stops base coll k Q W i s error
+pub stops_more : (base : Base) (coll : Name) (k : ℕ) (P Q : Option Tree → Option Tree → Type 0) (W : Type 0) (i : Item) (s : Sight) (error : ErrorItem) → ((a t : Option Tree) → P a t → Q a t) → (W → ⊥) → Stops base coll k P ⊥ i s error → Stops base coll k Q W i s error
 stops_more base coll k P Q W (Looked at after up page) s error f none h = (f after up h.0, h.1, ⊎_elim (λ z. absurd z.0) (λ z. inr ((λ w. absurd (none w)), z.1, z.2)) h.2)
 stops_more base coll k P Q W (Wrote at) s error f none h = h
 stops_more base coll k P Q W (Lost at read found) s error f none h = h
 stops_more base coll k P Q W (Faulted at before count) s error f none h = h
 
-not_some : {A : Type 0} (o : Option A) → o ≡ None → IsSome o → ⊥
+pub not_some : {A : Type 0} (o : Option A) → o ≡ None → IsSome o → ⊥
 not_some None e h = cc
 not_some (Some a) e h = cc
 

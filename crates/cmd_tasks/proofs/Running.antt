@@ -20,7 +20,7 @@ use Rattle.cmd_tasks.specs.declared.task.Task.{Task}
 use Rattle.cmd_tasks.specs.declared.task.Served.{Served}
 use Rattle.cmd_tasks.specs.declared.trace.Item.{Item}
 use Rattle.cmd_tasks.specs.declared.work.State.{State}
-use Rattle.cmd_tasks.specs.declared.work.State.TheVariants.{Inserting, Selecting, Listing, Counting, Choosing, Changing, Done}
+use Rattle.cmd_tasks.specs.declared.work.State.TheVariants.{Inserting, Selecting, Listing, Counting, Choosing, Changing, Seeking, Deleting, Done}
 use Rattle.cmd_tasks.proofs.Sessions.{session_begins, session_steps, session_ends}
 use Rattle.cmd_tasks.proofs.Standing.{stands_served}
 
@@ -153,6 +153,8 @@ done_more (Listing search p part) P Q f h = h
 done_more (Counting w last n) P Q f h = h
 done_more (Choosing u p) P Q f h = h
 done_more (Changing u read d) P Q f h = h
+done_more (Seeking d p) P Q f h = h
+done_more (Deleting d read id) P Q f h = h
 done_more (Done r) P Q f h = f r h
 
 done_with : (s : State) (P : Reply → Type 0) → IfDone s P → (r : Reply) × (s ≡ Done r) × P r
@@ -162,6 +164,8 @@ done_with (Listing search p part) P h = absurd h
 done_with (Counting w last n) P h = absurd h
 done_with (Choosing u p) P h = absurd h
 done_with (Changing u read d) P h = absurd h
+done_with (Seeking d p) P h = absurd h
+done_with (Deleting d read id) P h = absurd h
 done_with (Done r) P h = (r, refl, h)
 
 -- a task that is done hands back what its session was told

@@ -25,7 +25,7 @@ use Rattle.cmd_tasks.specs.Placed.{OwnFrom, IsPlaced}
 use Rattle.cmd_tasks.specs.Stands.{StandsOn, IfDone}
 use Rattle.cmd_tasks.specs.declared.task.Task.{Task}
 use Rattle.cmd_tasks.specs.declared.work.State.{State}
-use Rattle.cmd_tasks.specs.declared.work.State.TheVariants.{Inserting, Selecting, Listing, Counting, Choosing, Changing, Done}
+use Rattle.cmd_tasks.specs.declared.work.State.TheVariants.{Inserting, Selecting, Listing, Counting, Choosing, Changing, Seeking, Deleting, Done}
 use Rattle.cmd_tasks.specs.declared.work.Moved.TheVariants as m
 
 pub point_within : (n : ℕ) (i : Item) → IsWithin n i → point i ≤ n
@@ -98,6 +98,8 @@ begins_asked moment c (Listing search p part) h = h.0
 begins_asked moment c (Counting w last n) h = h.0
 begins_asked moment c (Choosing u p) h = h.0
 begins_asked moment c (Changing u read d) h = absurd h
+begins_asked moment c (Seeking d p) h = h.0
+begins_asked moment c (Deleting d read id) h = absurd h
 begins_asked moment c (Done reply) h = absurd h
 
 begins_ready : (moment : ℤ) (c : CommandTree) (w : State) → Begins moment c w → IsReady w
@@ -107,6 +109,8 @@ begins_ready moment c (Listing search p part) h = h.1
 begins_ready moment c (Counting w last n) h = h.1
 begins_ready moment c (Choosing u p) h = h.1
 begins_ready moment c (Changing u read d) h = absurd h
+begins_ready moment c (Seeking d p) h = h.1
+begins_ready moment c (Deleting d read id) h = absurd h
 begins_ready moment c (Done reply) h = absurd h
 
 begins_way : (base : Base) (coll : Name) (k : ℕ) (moment : ℤ) (c : CommandTree) (w : State) → Begins moment c w → IsUnderWay base coll k moment w []
@@ -120,6 +124,12 @@ begins_way base coll k moment c (Choosing u p) h =
       (fresh_searching base coll None u.search p h.2, none, record { moment_is = h.4; lost_are = ap reverse h.3 }),
     )
 begins_way base coll k moment c (Changing u read d) h = absurd h
+begins_way base coll k moment c (Seeking d p) h =
+    let none = none_first d.search.sort in (
+      (tt, (refl, (let n = ap length h.3 in omega arith), match_none (first_of d.search.sort [] []) _ _ none tt)),
+      (fresh_searching base coll None d.search p h.2, none, ap reverse h.3),
+    )
+begins_way base coll k moment c (Deleting d read id) h = absurd h
 begins_way base coll k moment c (Done reply) h = absurd h
 
 -- entries of others

@@ -38,7 +38,7 @@ use Rattle.cmd_tasks.specs.Searching.{IsFresh, IsSearching, IsSeen, IsUnended, I
 use Rattle.cmd_tasks.specs.Moves.{updating, tries_rank, IsUpdating, Steps, Leads, IsUnderWay, IsKept, IsChosen, Takes, Chooses, LosesTo, Fits, EndsSo, EndsMarked, with_loss}
 use Rattle.cmd_tasks.specs.declared.work.Updating.{Updating}
 use Rattle.cmd_tasks.specs.declared.work.State.{State}
-use Rattle.cmd_tasks.specs.declared.work.State.TheVariants.{Inserting, Selecting, Listing, Counting, Choosing, Changing, Done}
+use Rattle.cmd_tasks.specs.declared.work.State.TheVariants.{Inserting, Selecting, Listing, Counting, Choosing, Changing, Seeking, Deleting, Done}
 use Rattle.cmd_tasks.specs.declared.work.Moved.{Moved}
 use Rattle.cmd_tasks.specs.declared.work.Moved.TheVariants as m
 use Rattle.cmd_tasks.specs.declared.work.Progress.{Progress}
@@ -55,7 +55,7 @@ use Rattle.cmd_tasks.proofs.Lookback.{still_same, came_between}
 
 -- ---- what a step is, told or not
 
-falls : (n m : ℕ) (last : Option Tree) → last ≡ None → m ≡ n + 1 → m < 4 → tries_rank (4 - m) + (rank_of last + 1) < tries_rank (4 - n)
+pub falls : (n m : ℕ) (last : Option Tree) → last ≡ None → m ≡ n + 1 → m < 4 → tries_rank (4 - m) + (rank_of last + 1) < tries_rank (4 - n)
 falls n m last first e l = let s : 4 - n ≡ suc (4 - m) = omega arith in let r : tries_rank (4 - n) ≡ tries_rank (4 - m) + (rank_of None + 2) = ap tries_rank s in let a = ap rank_of first in omega arith
 
 pub loses_steps : (k low high : ℕ) (H H' : List Entry) (u : Updating) (read : ℕ) (d : Tree) (at : ℕ) (found : Option ℕ) (o : Moved) → IsUpdating u → H' ≡ H → at ≡ length H → LosesTo at read found u o → Steps k low high (Changing u read d) H H' o
@@ -70,7 +70,7 @@ pub some_number : (o : Option Version) (tx : ℕ) → option_map (λ (v : Versio
 some_number None tx e = cc
 some_number (Some v) tx e = (v, refl, same_some v.tx tx e)
 
-mark_stops : (base : Base) (coll : Name) (k : ℕ) (P : Option Tree → Option Tree → Type 0) (W : Type 0) (H H' : List Entry) (at : ℕ) (after up : Option Tree) (i : Item) (error : ErrorItem) → H' ≡ H → at ≡ length H → IsLooked i at after up [] → P after up → W
+pub mark_stops : (base : Base) (coll : Name) (k : ℕ) (P : Option Tree → Option Tree → Type 0) (W : Type 0) (H H' : List Entry) (at : ℕ) (after up : Option Tree) (i : Item) (error : ErrorItem) → H' ≡ H → at ≡ length H → IsLooked i at after up [] → P after up → W
     → IsNoWrite coll (replay base H) error → Stops base coll k P W i (sight H' i) error
 mark_stops base coll k P W H H' at after up (Looked a from to pairs) error same here is marks writes cause =
     let past : take a H' ≡ H = saw H H' a same (is.0 ∙ here) in
@@ -195,4 +195,6 @@ fits_so once base coll k moment (Listing search p part) H trace placed lawful ap
 fits_so once base coll k moment (Counting w last n) H trace placed lawful apart old way = tt
 fits_so once base coll k moment (Choosing u p) H trace placed lawful apart old way = tt
 fits_so once base coll k moment (Changing u read d) H trace placed lawful apart old way = fits_now base coll k moment u read d H trace placed lawful apart way once old (version (replay base H) coll (id_of d)) refl
+fits_so once base coll k moment (Seeking d p) H trace placed lawful apart old way = tt
+fits_so once base coll k moment (Deleting d read id) H trace placed lawful apart old way = tt
 fits_so once base coll k moment (Done r) H trace placed lawful apart old way = tt

@@ -11,6 +11,7 @@ pub mod Wanted
 pub mod Looking
 pub mod Finding
 pub mod Searching
+pub mod Deleting
 pub mod Moves
 pub mod Stands
 pub mod Joined

@@ -8,7 +8,7 @@ use Rattle.json_tree.specs.Tree.{Tree}
 use Rattle.json_tree.specs.View.{tree}
 use Rattle.shred_cols.specs.Row.{Version, id_of}
 use Rattle.shred_cols.specs.Rows.{ascends}
-use Rattle.col_keeper.specs.Tables.{Name, KeepsLimits}
+use Rattle.col_keeper.specs.Tables.{Name, KeepsLimits, IsShort}
 use Rattle.filter_tree.specs.Filters.{FilterTree}
 use Rattle.filter_tree.specs.Matches.{matches}
 use Rattle.filter_tree.specs.View.{filter_tree}
@@ -26,7 +26,7 @@ use Rattle.store_core.specs.State.{State as Base, version}
 use Rattle.store_core.specs.Journal.{IsMadeOfRead}
 use Rattle.store_core.specs.declared.entry.Change.TheVariants.{Update}
 use Rattle.store_core.specs.declared.entry.Entry.{Entry}
-use Rattle.cmd_grammar.specs.Commands.{CommandTree, Paging, insert_one, find_one, find, count_documents, update_one, IsStorable, IsAskablePaging}
+use Rattle.cmd_grammar.specs.Commands.{CommandTree, Paging, insert_one, find_one, find, count_documents, update_one, delete_one, IsStorable, IsAskablePaging}
 use Rattle.cmd_tasks.specs.Rank.{rank_of}
 use Rattle.cmd_tasks.specs.Trace.{Sight, sight, Found, now, writes, rows_now, shown, shown_by, end_of, next_from, IsLook, FullPage}
 use Rattle.cmd_tasks.specs.Attempts.{IsOneOf}
@@ -37,8 +37,9 @@ use Rattle.cmd_tasks.specs.Placed.{IsPlaced}
 use Rattle.cmd_tasks.specs.Pages.{found_row, pair_of, up_of}
 use Rattle.cmd_tasks.specs.Wanted.{IsWanted}
 use Rattle.cmd_tasks.specs.Part.{from_of, given_of, keep_of, state_after}
-use Rattle.cmd_tasks.specs.Looking.{Made, IsLooked, Refuses}
+use Rattle.cmd_tasks.specs.Looking.{Made, IsLooked, AreShort, Refuses}
 use Rattle.cmd_tasks.specs.Searching.{IsSearchable, IsFresh, IsSearching, IsSeen}
+use Rattle.cmd_tasks.specs.Deleting.{deleting, IsDeletion, IsPicked}
 use Rattle.cmd_tasks.specs.declared.work.Wanted.{Wanted}
 use Rattle.cmd_tasks.specs.declared.work.Search.{Search}
 use Rattle.cmd_tasks.specs.declared.work.Progress.{Progress}
@@ -47,7 +48,7 @@ use Rattle.cmd_tasks.specs.declared.work.Updating.{Updating}
 use Rattle.cmd_tasks.specs.declared.trace.Item.{Item}
 use Rattle.cmd_tasks.specs.declared.trace.Item.TheVariants.{Looked, Wrote, Lost, Faulted}
 use Rattle.cmd_tasks.specs.declared.work.State.{State}
-use Rattle.cmd_tasks.specs.declared.work.State.TheVariants.{Inserting, Selecting, Listing, Counting, Choosing, Changing, Done}
+use Rattle.cmd_tasks.specs.declared.work.State.TheVariants.{Inserting, Selecting, Listing, Counting, Choosing, Changing, Seeking, Deleting, Done}
 use Rattle.cmd_tasks.specs.declared.work.Moved.{Moved}
 use Rattle.cmd_tasks.specs.declared.work.Moved.TheVariants as m
 
@@ -67,6 +68,8 @@ asked (Listing search progress part) = Some (find (filter_tree search.wanted.fil
 asked (Counting w last n) = Some (count_documents (filter_tree w.filter))
 asked (Choosing u progress) = Some (updating u)
 asked (Changing u read d) = Some (updating u)
+asked (Seeking d progress) = Some (deleting d)
+asked (Deleting d read id) = Some (deleting d)
 asked (Done reply) = None
 
 -- the numbers of the page are within their bounds, and the state keeps how many were given before
@@ -88,6 +91,8 @@ IsReady (Listing search progress part) = IsSearchable search progress × IsPart 
 IsReady (Counting w last n) = IsWanted w × (n < 1001)
 IsReady (Choosing u progress) = IsUpdating u × (progress.shown < 10001)
 IsReady (Changing u read d) = IsUpdating u × KeepsLimits d
+IsReady (Seeking d progress) = IsDeletion d × (progress.shown < 10001) × AreShort progress.kept.items
+IsReady (Deleting d read id) = IsDeletion d × IsShort id
 IsReady (Done reply) = ⊥
 
 -- the state in which the command begins that was asked at this moment
@@ -98,6 +103,8 @@ Begins moment c (Listing search progress part) = (asked (Listing search progress
 Begins moment c (Counting w last n) = (asked (Counting w last n) ≡ Some c) × IsReady (Counting w last n) × (last ≡ None) × (n ≡ 0)
 Begins moment c (Choosing u progress) = (asked (Choosing u progress) ≡ Some c) × IsReady (Choosing u progress) × IsFresh None progress × (u.lost.items ≡ []) × (u.moment ≡ moment)
 Begins moment c (Changing u read d) = ⊥
+Begins moment c (Seeking d progress) = (asked (Seeking d progress) ≡ Some c) × IsReady (Seeking d progress) × IsFresh None progress × (d.lost.items ≡ [])
+Begins moment c (Deleting d read id) = ⊥
 Begins moment c (Done reply) = ⊥
 
 -- of so many attempts that are left, each has a listing before it
@@ -113,6 +120,8 @@ left (Listing search progress part) = rank_of progress.last
 left (Counting w last n) = rank_of last
 left (Choosing u progress) = tries_rank (4 - length u.lost.items) + (rank_of progress.last + 1)
 left (Changing u read d) = tries_rank (4 - length u.lost.items)
+left (Seeking d progress) = tries_rank (4 - length d.lost.items) + (rank_of progress.last + 1)
+left (Deleting d read id) = tries_rank (4 - length d.lost.items)
 left (Done reply) = 0
 
 abbrev pub Steps : ℕ → ℕ → ℕ → State → List Entry → List Entry → Moved → Type 0
@@ -178,6 +187,8 @@ Fits s coll (Listing search progress part) = ⊤
 Fits s coll (Counting w last n) = ⊤
 Fits s coll (Choosing u progress) = ⊤
 Fits s coll (Changing u read d) = IsMadeOfRead (Update u.updates u.moment d) (Some read) (version s coll (id_of d))
+Fits s coll (Seeking d progress) = ⊤
+Fits s coll (Deleting d read id) = ⊤
 Fits s coll (Done reply) = ⊤
 
 module _ (base : Base) (coll : Name) (k : ℕ) where
@@ -211,6 +222,10 @@ module _ (base : Base) (coll : Name) (k : ℕ) where
         IsSearching base coll None u.search progress (round sights)
         × (chosen base coll k (filter_tree u.search.wanted.filter) u.search.sort sights ≡ None) × IsKept u sights
     Keeps (Changing u read d) sights = IsChosen u read d sights
+    Keeps (Seeking d progress) sights =
+        IsSearching base coll None d.search progress (round sights)
+        × (chosen base coll k (filter_tree d.search.wanted.filter) d.search.sort sights ≡ None) × (reverse d.lost.items ≡ losses sights)
+    Keeps (Deleting d read id) sights = IsPicked base coll k d read id sights
     Keeps (Done reply) sights = ⊥
 
     abbrev pub IsUnderWay : State → List Sight → Type 0

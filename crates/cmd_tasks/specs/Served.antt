@@ -11,11 +11,11 @@ use Rattle.reply_env.specs.Reply.{IsRefusal}
 use Rattle.reply_env.specs.declared.reply.ErrorItem.{ErrorItem}
 use Rattle.reply_env.specs.declared.update_errors.Loss.{Loss}
 use Rattle.reply_env.specs.declared.reply.Reply.{Reply}
-use Rattle.reply_env.specs.declared.reply.Reply.TheVariants.{Inserted, Found as FoundOne, Listed, Counted, Updated, Refused, NoMemory}
+use Rattle.reply_env.specs.declared.reply.Reply.TheVariants.{Inserted, Found as FoundOne, Listed, Counted, Updated, Deleted, Refused, NoMemory}
 use Rattle.store_core.specs.State.{State, IsGone, number_at}
 use Rattle.store_core.specs.declared.entry.Entry.{Entry}
 use Rattle.store_core.specs.declared.entry.Entry.TheVariants.{Failed}
-use Rattle.store_core.specs.declared.entry.Change.TheVariants.{Insert, Update}
+use Rattle.store_core.specs.declared.entry.Change.TheVariants.{Insert, Update, Delete}
 use Rattle.update_ops.specs.Clauses.{Clause}
 use Rattle.update_ops.specs.Apply.{apply}
 use Rattle.update_ops.specs.declared.fault.UpdateFault.{UpdateFault}
@@ -23,7 +23,7 @@ use Rattle.filter_tree.specs.Filters.{FilterTree}
 use Rattle.view_sort.specs.Sort.{SortKeys}
 use Rattle.view_sort.specs.View.{view}
 use Rattle.cmd_grammar.specs.Refused.{update_error}
-use Rattle.cmd_grammar.specs.Commands.{CommandTree, insert_one, find_one, find, count_documents, update_one}
+use Rattle.cmd_grammar.specs.Commands.{CommandTree, insert_one, find_one, find, count_documents, update_one, delete_one}
 use Rattle.cmd_tasks.specs.Trace.{Sight, sight, Found, now, shown, GoesOn, IsLook, next_from, IsListed}
 use Rattle.cmd_tasks.specs.Searches.{bound, is_too_many, in_order, first_of}
 use Rattle.cmd_tasks.specs.Part.{from_of, keep_of, part_of, state_after}
@@ -53,6 +53,7 @@ TellsInserted id (FoundOne view) = ⊥
 TellsInserted id (Listed views state) = ⊥
 TellsInserted id (Counted count more) = ⊥
 TellsInserted id (Updated matched modified) = ⊥
+TellsInserted id (Deleted deleted) = ⊥
 TellsInserted id (Refused errors kept) = ⊥
 TellsInserted id (NoMemory n) = ⊥
 
@@ -63,6 +64,7 @@ TellsFound d (FoundOne view) = option_map tree view ≡ d
 TellsFound d (Listed views state) = ⊥
 TellsFound d (Counted count more) = ⊥
 TellsFound d (Updated matched modified) = ⊥
+TellsFound d (Deleted deleted) = ⊥
 TellsFound d (Refused errors kept) = ⊥
 TellsFound d (NoMemory n) = ⊥
 
@@ -73,6 +75,7 @@ TellsListed ds next (FoundOne view) = ⊥
 TellsListed ds next (Listed views state) = (map tree views.items ≡ ds) × (state ≡ next)
 TellsListed ds next (Counted count more) = ⊥
 TellsListed ds next (Updated matched modified) = ⊥
+TellsListed ds next (Deleted deleted) = ⊥
 TellsListed ds next (Refused errors kept) = ⊥
 TellsListed ds next (NoMemory n) = ⊥
 
@@ -137,6 +140,7 @@ module _ (base : State) (coll : Name) (k : ℕ) where
   IsToWrite (find f sort shows p) sights = ⊥
   IsToWrite (count_documents f) sights = ⊥
   IsToWrite (update_one f u sort) sights = IsSome (chosen f sort sights)
+  IsToWrite (delete_one f sort) sights = IsSome (chosen f sort sights)
 
   -- the interval of a look at a point where there is nothing to look at or to write
   abbrev pub Marks : CommandTree → List Sight → Option Tree → Option Tree → Type 0
@@ -145,6 +149,8 @@ module _ (base : State) (coll : Name) (k : ℕ) where
   Marks (find f sort shows p) sights after up = (after ≡ next_from (from_of p) sights) × (up ≡ None)
   Marks (count_documents f) sights after up = (after ≡ next_from None sights) × (up ≡ None)
   Marks (update_one f u sort) sights after up =
+      MatchOption (chosen f sort sights) ((after ≡ next_from None (round sights)) × (up ≡ None)) (λ x. (after ≡ Some x.id) × (up ≡ Some x.id))
+  Marks (delete_one f sort) sights after up =
       MatchOption (chosen f sort sights) ((after ≡ next_from None (round sights)) × (up ≡ None)) (λ x. (after ≡ Some x.id) × (up ≡ Some x.id))
 
   -- in the place of a write, no version number is left; or else the collection doesn't live
@@ -171,6 +177,9 @@ module _ (base : State) (coll : Name) (k : ℕ) where
     IsOpen (update_one f u sort) sights =
         (accepted sights ≡ 0) × (length (losses sights) < 4)
         × MatchOption (chosen f sort sights) (GoesOn base coll f (bound sort 1) (round sights)) (λ x. (new : Tree) × MakesAnother u moment x.doc new)
+    IsOpen (delete_one f sort) sights =
+        (accepted sights ≡ 0) × (length (losses sights) < 4)
+        × MatchOption (chosen f sort sights) (GoesOn base coll f (bound sort 1) (round sights)) (λ x. ⊤)
 
     -- what comes next
     abbrev pub Next : CommandTree → List Sight → Sight → Type 0
@@ -180,6 +189,8 @@ module _ (base : State) (coll : Name) (k : ℕ) where
     Next (count_documents f) sights s = IsLook base coll f (next_from None sights) s
     Next (update_one f u sort) sights s = MatchOption (chosen f sort sights) (IsLook base coll f (next_from None (round sights)) s)
         (λ x. (new : Tree) × MakesAnother u moment x.doc new × IsAttempt base coll k f (Update u moment new) (round sights) x s)
+    Next (delete_one f sort) sights s = MatchOption (chosen f sort sights) (IsLook base coll f (next_from None (round sights)) s)
+        (λ x. IsAttempt base coll k f Delete (round sights) x s)
 
     -- the sights so far are those of the command
     abbrev pub IsPartOf : CommandTree → List Sight → Type 0
@@ -203,6 +214,11 @@ module _ (base : State) (coll : Name) (k : ℕ) where
         ⊎ ((length (losses sights) ≡ 4) × IsRefusal (errors.lost_writes (reverse (losses sights))) reply)
         ⊎ ((accepted sights ≡ 0) × (length (losses sights) < 4)
         × IsFound f sort 1 (round sights) (λ xs. MatchOption (first xs) (reply ≡ Updated 0 0) (λ x. TellsUnwritten (apply u x.doc moment false) x.doc reply)) reply)
+    Answers (delete_one f sort) sights reply =
+        ((accepted sights ≡ 1) × (reply ≡ Deleted 1))
+        ⊎ ((length (losses sights) ≡ 4) × IsRefusal (errors.lost_writes (reverse (losses sights))) reply)
+        ⊎ ((accepted sights ≡ 0) × (length (losses sights) < 4)
+        × IsFound f sort 1 (round sights) (λ xs. (xs ≡ []) × (reply ≡ Deleted 0)) reply)
 
     abbrev pub IsStopped : CommandTree → List Sight → ErrorItem → Type 0
     IsStopped c [] error = ⊥

@@ -2,11 +2,11 @@
 ghost use Rattle.std.specs.Prelude.{◌≡◌, ◌<◌, ◌≤◌, ◌-◌, ◌^◌, ℤ, None, Some};
 ghost use Rattle.std.specs.Option.{option_map};
 ghost use Rattle.filter_tree.specs.View.{filter_tree};
-ghost use Rattle.cmd_grammar.specs.Commands.{IsAskableFilter, IsAskablePaging, Paging, find_one, find, update_one};
+ghost use Rattle.cmd_grammar.specs.Commands.{IsAskableFilter, IsAskablePaging, Paging, find_one, find, update_one, delete_one};
 ghost use Rattle.cmd_tasks.specs.Part.{given_of, from_of, most_of};
 ghost use Rattle.cmd_tasks.specs.Moves.{Begins};
 
-use crate::work::{Part, Progress, Search, State, Updating, Wanted};
+use crate::work::{Deletion, Part, Progress, Search, State, Updating, Wanted};
 use filter_tree::Filter;
 use json_tree::DocId;
 use std::alloc::Global;
@@ -53,6 +53,24 @@ pub(crate) fn choosing(
             },
             updates,
             moment,
+            lost: Vec::new(alloc),
+        },
+        progress: Progress::begin(alloc, None),
+    }
+}
+
+/// The state in which deleteOne begins.
+pub(crate) fn seeking(alloc: Global, filter: Filter, sort: Sort) -> State
+    requires { IsAskableFilter (filter_tree filter) }
+    ensures { (moment : ℤ) → Begins moment (delete_one (filter_tree filter) sort) result }
+{
+    State::Seeking {
+        deletion: Deletion {
+            search: Search {
+                wanted: Wanted::new(alloc, filter),
+                sort,
+                keep: 1,
+            },
             lost: Vec::new(alloc),
         },
         progress: Progress::begin(alloc, None),

@@ -2,6 +2,7 @@
 #![tactic(auto)]
 
 mod begin;
+mod deletes;
 mod finds;
 mod glance;
 mod laws;

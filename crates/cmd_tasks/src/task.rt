@@ -11,7 +11,8 @@ ghost use Rattle.cmd_tasks.specs.Served.{IsServed};
 ghost use Rattle.cmd_tasks.specs.Moves.{Steps, Promises, IsReady, Begins, Fits, left};
 ghost use Rattle.cmd_tasks.specs.Stands.{StandsOn, IsSame, Adds, IfDone};
 
-use crate::begin::{choosing, listing, selecting};
+use crate::begin::{choosing, listing, seeking, selecting};
+use crate::deletes::{delete, seek};
 use crate::finds::{list, select};
 use crate::steps::{count, insert};
 use crate::trace::{Item, Trace};
@@ -81,6 +82,10 @@ fn advance<K: Keeper>(
         } => count(alloc, store, by, coll, wanted, last, shown),
         State::Choosing { update, progress } => choose(alloc, store, by, coll, update, progress),
         State::Changing { update, read, doc } => change(alloc, store, by, coll, update, read, doc),
+        State::Seeking { deletion, progress } => seek(alloc, store, by, coll, deletion, progress),
+        State::Deleting { deletion, read, id } => {
+            delete(alloc, store, by, coll, deletion, read, id)
+        }
         State::Done { reply: _ } => unreachable!(),
     }
 }
@@ -115,6 +120,7 @@ fn first_state(alloc: Global, moment: i64, command: Command) -> State
             updates,
             sort,
         } => choosing(alloc, moment, filter, updates, sort),
+        Command::DeleteOne { filter, sort } => seeking(alloc, filter, sort),
     }
 }
 
@@ -206,7 +212,9 @@ impl Task {
             | State::Listing { .. }
             | State::Counting { .. }
             | State::Choosing { .. }
-            | State::Changing { .. } => { unreachable!() }
+            | State::Changing { .. }
+            | State::Seeking { .. }
+            | State::Deleting { .. } => { unreachable!() }
         }
     }
 }

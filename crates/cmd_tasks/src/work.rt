@@ -105,6 +105,14 @@ pub(crate) struct Updating {
     pub(crate) lost: Vec<Loss>,
 }
 
+/// A deletion that is asked for: what is searched for, of which the first match is deleted, and the attempts that were
+/// lost so far.
+#[derive(Drop)]
+pub(crate) struct Deletion {
+    pub(crate) search: Search,
+    pub(crate) lost: Vec<Loss>,
+}
+
 /// What is to be done next.
 #[derive(Drop)]
 pub(crate) enum State {
@@ -134,6 +142,15 @@ pub(crate) enum State {
         update: Updating,
         read: u64,
         doc: Doc,
+    },
+    Seeking {
+        deletion: Deletion,
+        progress: Progress,
+    },
+    Deleting {
+        deletion: Deletion,
+        read: u64,
+        id: DocId,
     },
     Done {
         reply: Reply,

@@ -4,7 +4,7 @@ mod rows;
 mod searches;
 
 use self::pages::{OPTIONS, PAGES, STATES};
-use self::rows::{REQUESTS, RETURNS, STREAMS, UPDATES, WORDS};
+use self::rows::{DELETIONS, REQUESTS, RETURNS, STREAMS, UPDATES, WORDS};
 use self::searches::{FAULTS, FIRSTS, ORDER, REFUSED, SORTABLE, SORTED, SORTS, UNSORTABLE, VIEWS};
 use crate::top::dapi;
 use keeper_mem::MemKeeper;
@@ -177,7 +177,7 @@ fn searches_show_what_they_have_to(rt: HostRuntime) -> Result<(), Fail> {
 
 #[test]
 fn calls_write_what_they_have_to(rt: HostRuntime) -> Result<(), Fail> {
-    for rows in [REQUESTS, UPDATES, WORDS, STREAMS, RETURNS] {
+    for rows in [REQUESTS, UPDATES, DELETIONS, WORDS, STREAMS, RETURNS] {
         assert_eq!(rt; first_wrong(rt.alloc(), rows)?, "");
     }
     Ok(())

@@ -11,7 +11,7 @@ use Rattle.reply_env.specs.declared.reply.ErrorItem.{ErrorItem}
 use Rattle.reply_env.specs.declared.reply.SoFar.{SoFar}
 use Rattle.reply_env.specs.declared.reply.SoFar.TheVariants as so_far
 use Rattle.reply_env.specs.declared.reply.Reply.{Reply}
-use Rattle.reply_env.specs.declared.reply.Reply.TheVariants.{Inserted, Found, Listed, Counted, Updated, Refused, NoMemory}
+use Rattle.reply_env.specs.declared.reply.Reply.TheVariants.{Inserted, Found, Listed, Counted, Updated, Deleted, Refused, NoMemory}
 
 -- the texts of the parts, with commas between
 abbrev pub with_commas : {X : Type 0} → (X → List ℕ) → List X → List ℕ
@@ -45,6 +45,10 @@ inserted_text ids = codes "{\"insertedIds\":[" ++ with_commas text_of ids ++ cod
 abbrev pub updated_text : ℕ → ℕ → List ℕ
 updated_text matched modified = codes "{\"matchedCount\":" ++ decimal matched ++ codes ",\"modifiedCount\":" ++ decimal modified ++ codes "}"
 
+-- how many documents were deleted
+abbrev pub deleted_text : ℕ → List ℕ
+deleted_text deleted = codes "{\"deletedCount\":" ++ decimal deleted ++ codes "}"
+
 -- ---- errors
 
 abbrev pub error_text : ErrorItem → List ℕ
@@ -57,7 +61,7 @@ errors_text errors = codes "\"errors\":[" ++ with_commas error_text errors ++ co
 abbrev pub so_far_text : SoFar → List ℕ
 so_far_text (so_far.Inserted ids) = inserted_text ids.items
 so_far_text (so_far.Updated matched modified) = updated_text matched modified
-so_far_text (so_far.Deleted deleted) = codes "{\"deletedCount\":" ++ decimal deleted ++ codes "}"
+so_far_text (so_far.Deleted deleted) = deleted_text deleted
 
 abbrev pub status_text : Option SoFar → List ℕ
 status_text None = codes "{"
@@ -71,6 +75,7 @@ reply_text (Found view) = codes "{\"data\":{\"document\":" ++ view_text view ++ 
 reply_text (Listed views state) = codes "{\"data\":" ++ listed_text views.items state ++ codes "}"
 reply_text (Counted count more) = codes "{\"status\":{\"count\":" ++ decimal count ++ more_text more ++ codes "}}"
 reply_text (Updated matched modified) = codes "{\"status\":" ++ updated_text matched modified ++ codes "}"
+reply_text (Deleted deleted) = codes "{\"status\":" ++ deleted_text deleted ++ codes "}"
 reply_text (Refused errors done) = status_text done ++ errors_text errors.items
 reply_text (NoMemory accepted) = codes "{" ++ errors_text (out_of_memory accepted ∷ [])
 

@@ -5,7 +5,7 @@ ghost use Rattle.json_tree.specs.View.{tree};
 ghost use Rattle.json_text.specs.Print.{escaped, string_text, text_of};
 ghost use Rattle.name_tables.specs.Code.{code_text};
 ghost use Rattle.reply_env.specs.Messages.{out_of_memory};
-ghost use Rattle.reply_env.specs.Reply.{with_commas, view_text, state_text as page_text, listed_text, more_text, inserted_text, updated_text, error_text, errors_text, so_far_text, status_text, reply_text};
+ghost use Rattle.reply_env.specs.Reply.{with_commas, view_text, state_text as page_text, listed_text, more_text, inserted_text, updated_text, deleted_text, error_text, errors_text, so_far_text, status_text, reply_text};
 
 use crate::fault::ReplyFault;
 use crate::fixed::no_memory_reply;
@@ -134,7 +134,7 @@ fn print_updated(matched: u64, modified: u64, out: &mut Vec<u8>) -> Result<(), A
 }
 
 fn print_deleted(deleted: u64, out: &mut Vec<u8>) -> Result<(), AllocError>
-    ensures { OnOk result (out.new.items ≡ out.old.items ++ (codes "{\"deletedCount\":" ++ decimal deleted ++ codes "}")) }
+    ensures { OnOk result (out.new.items ≡ out.old.items ++ deleted_text deleted) }
 {
     out.extend_from_slice(b"{\"deletedCount\":")?;
     print_decimal(deleted, out)?;
@@ -274,6 +274,15 @@ fn print_update(matched: u64, modified: u64, out: &mut Vec<u8>) -> Result<(), Al
     Ok(())
 }
 
+fn print_deletion(deleted: u64, out: &mut Vec<u8>) -> Result<(), AllocError>
+    ensures { OnOk result (out.new.items ≡ out.old.items ++ (codes "{\"status\":" ++ deleted_text deleted ++ codes "}")) }
+{
+    out.extend_from_slice(b"{\"status\":")?;
+    print_deleted(deleted, out)?;
+    out.push(b'}')?;
+    Ok(())
+}
+
 fn print_refused(
     errors: &[ErrorItem],
     so_far: &Option<SoFar>,
@@ -301,6 +310,7 @@ fn print_behind(reply: &Reply, out: &mut Vec<u8>) -> Result<(), AllocError>
         Reply::Listed { views, state } => print_listed(views.as_slice(), state, out),
         Reply::Counted { count, more } => print_count(*count, *more, out),
         Reply::Updated { matched, modified } => print_update(*matched, *modified, out),
+        Reply::Deleted { deleted } => print_deletion(*deleted, out),
         Reply::Refused { errors, so_far } => print_refused(errors.as_slice(), so_far, out),
         Reply::NoMemory { accepted } => print_no_memory(*accepted, out),
     }

@@ -48,6 +48,10 @@ pub enum Reply {
         matched: u64,
         modified: u64,
     },
+    /// So many documents were deleted.
+    Deleted {
+        deleted: u64,
+    },
     /// `so_far` is there exactly where the request made an accepted write.
     Refused {
         errors: Vec<ErrorItem>,

@@ -49,7 +49,7 @@ fn refused(alloc: Global, so_far: Option<SoFar>) -> Result<Reply, Fail> {
     })
 }
 
-const TEXTS: [&str; 17] = [
+const TEXTS: [&str; 18] = [
     r#"{"status":{"insertedIds":["a",2]}}"#,
     r#"{"data":{"document":{"_id":"a","n":1.5}}}"#,
     r#"{"data":{"document":null}}"#,
@@ -66,6 +66,7 @@ const TEXTS: [&str; 17] = [
     r#"{"data":{"documents":[{"_id":"a","n":1.5}],"nextPageState":"\u0001\"\\/é"}}"#,
     r#"{"data":{"documents":[{"_id":"a","n":1.5},{},{"_id":"a","n":1.5}],"nextPageState":null}}"#,
     r#"{"data":{"documents":[{"_id":"a","n":1.5},{},{"_id":"a","n":1.5}],"nextPageState":""}}"#,
+    r#"{"status":{"deletedCount":1}}"#,
     r#"{"errors":[{"message":"Out of memory after 18446744073709551615 accepted writes","errorCode":"OUT_OF_MEMORY"}]}"#,
 ];
 
@@ -122,6 +123,7 @@ fn reply_at(alloc: Global, place: usize) -> Result<Reply, Fail> {
         13 => listed(alloc, 1, Some("\u{1}\"\\/é")),
         14 => listed(alloc, 3, None),
         15 => listed(alloc, 3, Some("")),
+        16 => Ok(Reply::Deleted { deleted: 1 }),
         _ => Ok(Reply::NoMemory { accepted: u64::MAX }),
     }
 }

@@ -9,3 +9,6 @@ returns-in-FindOne c = subst (λ (z : Command). Begins c.args.moment (command_tr
 
 pub returns-in-Find : goal.returns-in-Find
 returns-in-Find c = subst (λ (z : Command). Begins c.args.moment (command_tree z) c.listing.result) (sym c.in-Find.is) (c.listing.ensures c.args.moment)
+
+pub returns-in-DeleteOne : goal.returns-in-DeleteOne
+returns-in-DeleteOne c = subst (λ (z : Command). Begins c.args.moment (command_tree z) c.seeking.result) (sym c.in-DeleteOne.is) (c.seeking.ensures c.args.moment)
