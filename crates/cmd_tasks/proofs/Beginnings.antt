@@ -1,13 +1,13 @@
 -- The state in which find begins.
-use Rattle.std.proofs.Common.{◌≡◌, ℕ, ℤ, ◌+◌, ◌<◌, ◌≤◌, Option, Some, refl, sym, ap, ◌∙◌, subst, arith}
+use Rattle.std.proofs.Common.{◌≡◌, ℕ, ℤ, ◌+◌, ◌≤◌, Option, Some, sym, ap, ◌∙◌, subst, arith}
 use Rattle.json_tree.specs.Tree.{Tree}
 use Rattle.filter_tree.specs.Filters.{FilterTree}
 use Rattle.filter_tree.specs.View.{filter_tree}
 use Rattle.cmd_grammar.specs.Commands.{Paging, IsAskablePaging, find}
 use Rattle.cmd_tasks.specs.Wanted.{IsWanted}
 use Rattle.cmd_tasks.specs.Part.{from_of, given_of, most_of, keep_of}
-use Rattle.cmd_tasks.specs.Searching.{IsSearchable, IsFresh}
-use Rattle.cmd_tasks.specs.Moves.{paging, IsPart, Begins}
+use Rattle.cmd_tasks.specs.Searching.{IsFresh}
+use Rattle.cmd_tasks.specs.Moves.{paging, Begins}
 use Rattle.cmd_tasks.specs.declared.work.Search.{Search}
 use Rattle.cmd_tasks.specs.declared.work.Progress.{Progress}
 use Rattle.cmd_tasks.specs.declared.work.Part.{Part}

@@ -1,5 +1,5 @@
 -- A look of the present round: where its item stands in the trace, and what happened since.
-use Rattle.std.proofs.Common.{◌≡◌, ◌≢◌, ℕ, zero, suc, ◌+◌, ◌<◌, ◌≤◌, List, [], ◌∷◌, ◌++◌, map, take, drop, reverse, length, Bool, true, false, cond, Option, Some, None, refl, sym, ap, ◌∙◌, subst, arith, append_assoc, append-nil}
+use Rattle.std.proofs.Common.{◌≡◌, ◌≢◌, ℕ, zero, suc, ◌≤◌, List, [], ◌∷◌, ◌++◌, map, take, drop, reverse, length, true, false, cond, Option, Some, refl, sym, ap, ◌∙◌, subst, append_assoc, append-nil}
 use Rattle.std.specs.Prelude.{slice_get}
 use Rattle.std.specs.List.{list_any}
 use Rattle.std.proofs.lemmas.List.{length-take-le, map-append, reverse-append, reverse-reverse}
@@ -13,7 +13,7 @@ use Rattle.cmd_tasks.specs.Trace.{Sight, sight, point, writes, Found, now}
 use Rattle.cmd_tasks.specs.Searches.{stored}
 use Rattle.cmd_tasks.specs.Attempts.{IsOneOf, comes_between}
 use Rattle.cmd_tasks.specs.Served.{round, sights}
-use Rattle.cmd_tasks.specs.Session.{AreOrdered, AreWithin, behind, places, written, NoWork}
+use Rattle.cmd_tasks.specs.Session.{AreOrdered, AreWithin, behind, written}
 use Rattle.cmd_tasks.specs.Placed.{OwnFrom, IsPlaced}
 use Rattle.cmd_tasks.specs.Searching.{IsSeen}
 use Rattle.cmd_tasks.specs.declared.trace.Item.{Item}

@@ -1,7 +1,6 @@
 -- How each command goes on, or is answered.
-use Rattle.std.proofs.Common.{◌≡◌, ◌≢◌, ℕ, ℤ, ◌+◌, ◌<◌, ◌≤◌, List, [], ◌∷◌, ◌++◌, map, take, length, true, false, ◌-◌, ◌^◌, Option, Some, None, refl, sym, ap, ◌∙◌, subst, arith, inl, inr, length-append, Vec, Global, leb, ◌⊎◌, ⊎_elim}
-use Rattle.std.specs.Prelude.{⊤, nat_le, if◌then◌else◌, IfSome, slice_get}
-use Rattle.std.specs.Option.{option_map}
+use Rattle.std.proofs.Common.{◌≡◌, ◌≢◌, ℕ, ℤ, ◌+◌, ◌<◌, ◌≤◌, List, [], ◌∷◌, ◌++◌, take, length, true, false, ◌-◌, ◌^◌, Option, Some, None, refl, sym, ap, ◌∙◌, subst, arith, inl, inr, length-append, Vec, Global, leb, ◌⊎◌, ⊎_elim}
+use Rattle.std.specs.Prelude.{⊤, nat_le, if◌then◌else◌}
 use Rattle.std.proofs.lemmas.List.{length-map}
 use Rattle.std.proofs.lemmas.Bool.{leb-true}
 use Rattle.std.proofs.lemmas.Bool.Decides.{leb_tells}
@@ -10,7 +9,7 @@ use Rattle.json_tree.specs.Tree.{Tree}
 use Rattle.json_tree.specs.View.{tree}
 use Rattle.json_tree.specs.declared.value.Value.{Value}
 use Rattle.shred_cols.specs.Row.{Version, id_of}
-use Rattle.shred_cols.specs.Rows.{Rows, first}
+use Rattle.shred_cols.specs.Rows.{Rows}
 use Rattle.col_keeper.specs.Tables.{Name}
 use Rattle.filter_tree.specs.Filters.{FilterTree}
 use Rattle.filter_tree.specs.View.{filter_tree}
@@ -41,7 +40,6 @@ use Rattle.cmd_tasks.specs.declared.work.State.{State}
 use Rattle.cmd_tasks.specs.declared.work.State.TheVariants.{Inserting, Counting}
 use Rattle.cmd_tasks.specs.declared.work.Moved.{Moved}
 use Rattle.cmd_tasks.specs.declared.work.Moved.TheVariants as m
-use Rattle.cmd_tasks.specs.declared.work.Glance.{Glance}
 use Rattle.cmd_tasks.specs.declared.work.Glance.TheVariants as g
 use Rattle.cmd_tasks.proofs.Glances.{saw, saw_before, saw_entry, lost_here, looked_here, failed_here}
 

@@ -1,16 +1,14 @@
 -- Attempts on the document that a round has chosen, and what follows a lost one.
-use Rattle.std.proofs.Common.{◌≡◌, ◌≢◌, ℕ, ℤ, suc, ◌+◌, ◌-◌, ◌^◌, ◌<◌, ◌≤◌, List, [], ◌∷◌, ◌++◌, map, take, drop, reverse, length, Bool, true, false, Option, Some, None, Result, Ok, Err, refl, sym, ap, ◌∙◌, subst, arith, inl, inr, ⊎_elim, ◌⊎◌, Vec, Global, length-append, append-nil}
-use Rattle.std.specs.Prelude.{IfSome, IsSome, MatchOption, slice_get, option_and_then}
+use Rattle.std.proofs.Common.{◌≡◌, ◌≢◌, ℕ, ℤ, suc, ◌+◌, ◌-◌, ◌<◌, ◌≤◌, List, [], ◌∷◌, ◌++◌, take, drop, reverse, length, false, Option, Some, None, Ok, refl, sym, ap, ◌∙◌, subst, arith, inl, inr, ⊎_elim, ◌⊎◌, length-append}
 use Rattle.std.specs.Option.{option_map}
 use Rattle.std.specs.List.{list_any}
-use Rattle.std.proofs.lemmas.List.{reverse-append, length-take-le, length-reverse, reverse-reverse}
+use Rattle.std.proofs.lemmas.List.{reverse-append, length-reverse, reverse-reverse}
 use Rattle.json_tree.specs.Tree.{Tree}
 use Rattle.shred_cols.specs.Row.{Version, id_of}
-use Rattle.shred_cols.specs.Rows.{Rows, ascends, version_of, first}
-use Rattle.col_keeper.specs.Tables.{Name, AreApart, KeepsLimits, rows_in}
+use Rattle.shred_cols.specs.Rows.{first}
+use Rattle.col_keeper.specs.Tables.{Name, AreApart}
 use Rattle.filter_tree.specs.Filters.{FilterTree}
 use Rattle.filter_tree.specs.View.{filter_tree}
-use Rattle.update_ops.specs.Clauses.{Clause}
 use Rattle.update_ops.specs.Apply.{apply}
 use Rattle.reply_env.specs.Messages as errors
 use Rattle.reply_env.specs.Reply.{IsRefusal}
@@ -18,33 +16,24 @@ use Rattle.reply_env.specs.declared.reply.ErrorItem.{ErrorItem}
 use Rattle.reply_env.specs.declared.reply.Reply.{Reply}
 use Rattle.reply_env.specs.declared.reply.Reply.TheVariants as reply
 use Rattle.reply_env.specs.declared.update_errors.Loss.{Loss}
-use Rattle.store_core.specs.State.{State as Base, IsOld, IsGone, version, number_at}
+use Rattle.store_core.specs.State.{State as Base, IsOld, version, number_at}
 use Rattle.store_core.specs.Journal.{IsJournal, IsMadeOfRead, replay}
 use Rattle.store_core.specs.declared.entry.Entry.{Entry}
 use Rattle.store_core.specs.declared.entry.Entry.TheVariants.{Changed, Failed}
 use Rattle.store_core.specs.declared.entry.Change.TheVariants.{Update}
-use Rattle.cmd_tasks.specs.Trace.{Sight, sight, point, writes, Found, now, rows_now, shown, shown_by, seen_by, Looks, IsLook, GoesOn, IsListed, FullPage, end_of, next_from}
-use Rattle.cmd_tasks.specs.Attempts.{IsWon, IsLost, IsAttempt, comes_between}
+use Rattle.cmd_tasks.specs.Trace.{Sight, sight, writes}
+use Rattle.cmd_tasks.specs.Attempts.{IsWon, IsLost, comes_between}
 use Rattle.view_sort.specs.Sort.{SortKeys}
-use Rattle.cmd_tasks.specs.Searches.{bound, in_order, first_of, stored}
-use Rattle.cmd_tasks.specs.Served.{IsPartOf, IsFound, Serves, Stops, Marks, IsToWrite, MakesAnother, TellsUnwritten, chosen, round, round_with, losses, lost_by, accepted, one_if_wrote, sights}
-use Rattle.cmd_tasks.specs.Session.{AreWithin}
-use Rattle.cmd_tasks.specs.Pages.{found_row}
+use Rattle.cmd_tasks.specs.Served.{IsPartOf, Serves, Stops, Marks, IsToWrite, chosen, losses, accepted, sights}
 use Rattle.cmd_tasks.specs.Placed.{IsPlaced}
 use Rattle.cmd_tasks.specs.Rank.{rank_of}
-use Rattle.cmd_tasks.specs.Wanted.{IsWanted}
 use Rattle.cmd_tasks.specs.Looking.{Made, IsLooked, Refuses}
-use Rattle.cmd_tasks.specs.Searching.{IsFresh, IsSearching, IsSeen, IsUnended, IsEnded, has_too_many, Seeks}
-use Rattle.cmd_tasks.specs.Moves.{updating, tries_rank, IsUpdating, Steps, Leads, IsUnderWay, IsKept, IsChosen, Takes, Chooses, LosesTo, Fits, EndsSo, EndsMarked, with_loss}
+use Rattle.cmd_tasks.specs.Moves.{updating, tries_rank, IsUpdating, Steps, Leads, IsUnderWay, IsChosen, LosesTo, Fits, EndsSo, EndsMarked, with_loss}
 use Rattle.cmd_tasks.specs.declared.work.Updating.{Updating}
 use Rattle.cmd_tasks.specs.declared.work.State.{State}
 use Rattle.cmd_tasks.specs.declared.work.State.TheVariants.{Inserting, Selecting, Listing, Counting, Choosing, Changing, Seeking, Deleting, Done}
 use Rattle.cmd_tasks.specs.declared.work.Moved.{Moved}
 use Rattle.cmd_tasks.specs.declared.work.Moved.TheVariants as m
-use Rattle.cmd_tasks.specs.declared.work.Progress.{Progress}
-use Rattle.cmd_tasks.specs.declared.work.Search.{Search}
-use Rattle.cmd_tasks.specs.declared.work.Searched.{Searched}
-use Rattle.cmd_tasks.specs.declared.work.Searched.TheVariants as sr
 use Rattle.cmd_tasks.specs.declared.trace.Item.{Item}
 use Rattle.cmd_tasks.specs.declared.trace.Item.TheVariants.{Looked, Wrote, Lost, Faulted}
 use Rattle.cmd_tasks.proofs.Glances.{saw, saw_before, saw_entry, lost_here}

@@ -1,22 +1,14 @@
 -- What a step of the work is, told or not; and how it goes on with a request that is under way.
-use Rattle.std.specs.Prelude.{◌≡◌, ◌⊎◌, ℕ, ℤ, zero, suc, ◌+◌, ◌-◌, ◌<◌, ◌≤◌, List, [], ◌∷◌, ◌++◌, length, map, reverse, Bool, true, false, Option, Some, None, ⊤, IfSome, nat_le, if◌then◌else◌}
+use Rattle.std.specs.Prelude.{◌≡◌, ◌⊎◌, ℕ, ℤ, zero, suc, ◌+◌, ◌-◌, ◌<◌, ◌≤◌, List, [], ◌∷◌, ◌++◌, length, map, reverse, false, Option, Some, None, ⊤, IfSome, nat_le, if◌then◌else◌}
 use Rattle.std.proofs.Common.{Vec, Global}
-use Rattle.std.specs.Option.{ForSome, option_map}
-use Rattle.std.specs.List.{filter}
-use Rattle.outside_io.specs.Causes.{Rose}
+use Rattle.std.specs.Option.{ForSome}
 use Rattle.json_tree.specs.Tree.{Tree}
 use Rattle.json_tree.specs.View.{tree}
 use Rattle.shred_cols.specs.Row.{Version, id_of}
-use Rattle.shred_cols.specs.Rows.{ascends}
 use Rattle.col_keeper.specs.Tables.{Name, KeepsLimits, IsShort}
-use Rattle.filter_tree.specs.Filters.{FilterTree}
-use Rattle.filter_tree.specs.Matches.{matches}
 use Rattle.filter_tree.specs.View.{filter_tree}
-use Rattle.update_ops.specs.Clauses.{Clause}
 use Rattle.update_ops.specs.Apply.{apply}
 use Rattle.reply_env.specs.Messages as errors
-use Rattle.reply_env.specs.Reply.{IsRefusal}
-use Rattle.reply_env.specs.declared.reply.ErrorItem.{ErrorItem}
 use Rattle.reply_env.specs.declared.reply.Reply.{Reply}
 use Rattle.reply_env.specs.declared.reply.Reply.TheVariants.{Updated, NoMemory}
 use Rattle.reply_env.specs.declared.update_errors.Loss.{Loss}
@@ -28,25 +20,21 @@ use Rattle.store_core.specs.declared.entry.Change.TheVariants.{Update}
 use Rattle.store_core.specs.declared.entry.Entry.{Entry}
 use Rattle.cmd_grammar.specs.Commands.{CommandTree, Paging, insert_one, find_one, find, count_documents, update_one, delete_one, IsStorable, IsAskablePaging}
 use Rattle.cmd_tasks.specs.Rank.{rank_of}
-use Rattle.cmd_tasks.specs.Trace.{Sight, sight, Found, now, writes, rows_now, shown, shown_by, end_of, next_from, IsLook, FullPage}
-use Rattle.cmd_tasks.specs.Attempts.{IsOneOf}
-use Rattle.cmd_tasks.specs.Served.{IsPartOf, IsOpen, Serves, Stops, TellsFound, TellsListed, TellsUnwritten, MakesAnother, counted, sights, chosen, round, losses}
-use Rattle.store_core.specs.Counts.{AllBy}
-use Rattle.cmd_tasks.specs.Session.{Records, AreCounted}
+use Rattle.cmd_tasks.specs.Trace.{Sight, sight, Found, shown, next_from}
+use Rattle.cmd_tasks.specs.Served.{IsPartOf, IsOpen, Serves, TellsFound, TellsListed, TellsUnwritten, MakesAnother, counted, sights, chosen, round, losses}
 use Rattle.cmd_tasks.specs.Placed.{IsPlaced}
-use Rattle.cmd_tasks.specs.Pages.{found_row, pair_of, up_of}
+use Rattle.cmd_tasks.specs.Pages.{found_row}
 use Rattle.cmd_tasks.specs.Wanted.{IsWanted}
 use Rattle.cmd_tasks.specs.Part.{from_of, given_of, keep_of, state_after}
 use Rattle.cmd_tasks.specs.Looking.{Made, IsLooked, AreShort, Refuses}
 use Rattle.cmd_tasks.specs.Searching.{IsSearchable, IsFresh, IsSearching, IsSeen}
 use Rattle.cmd_tasks.specs.Deleting.{deleting, IsDeletion, IsPicked}
 use Rattle.cmd_tasks.specs.declared.work.Wanted.{Wanted}
-use Rattle.cmd_tasks.specs.declared.work.Search.{Search}
 use Rattle.cmd_tasks.specs.declared.work.Progress.{Progress}
 use Rattle.cmd_tasks.specs.declared.work.Part.{Part}
 use Rattle.cmd_tasks.specs.declared.work.Updating.{Updating}
 use Rattle.cmd_tasks.specs.declared.trace.Item.{Item}
-use Rattle.cmd_tasks.specs.declared.trace.Item.TheVariants.{Looked, Wrote, Lost, Faulted}
+use Rattle.cmd_tasks.specs.declared.trace.Item.TheVariants.{Lost}
 use Rattle.cmd_tasks.specs.declared.work.State.{State}
 use Rattle.cmd_tasks.specs.declared.work.State.TheVariants.{Inserting, Selecting, Listing, Counting, Choosing, Changing, Seeking, Deleting, Done}
 use Rattle.cmd_tasks.specs.declared.work.Moved.{Moved}

@@ -1,5 +1,5 @@
 -- Where a task stands: on a store's base and journal, whatever other sessions append between its steps.
-use Rattle.std.specs.Prelude.{◌≡◌, ℕ, ◌⊎◌, List, [], ◌∷◌, ◌++◌, length, Option, Some, ⊤}
+use Rattle.std.specs.Prelude.{◌≡◌, ℕ, ◌⊎◌, List, [], ◌∷◌, ◌++◌, length, Option, Some}
 use Rattle.std.specs.Option.{ForSome}
 use Rattle.store_core.specs.State.{State as Base}
 use Rattle.store_core.specs.declared.entry.Entry.{Entry}
