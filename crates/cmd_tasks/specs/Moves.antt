@@ -29,6 +29,11 @@ use Rattle.cmd_tasks.specs.Part.{from_of, given_of, keep_of, state_after}
 use Rattle.cmd_tasks.specs.Looking.{Made, IsLooked, AreShort, Refuses}
 use Rattle.cmd_tasks.specs.Searching.{IsSearchable, IsFresh, IsSearching, IsSeen}
 use Rattle.cmd_tasks.specs.Deleting.{deleting, IsDeletion, IsPicked}
+use Rattle.cmd_tasks.specs.Taking.{Standing, standing}
+use Rattle.cmd_tasks.specs.Many.{doing_of, taking, IsMany, IsStart, IsStand, IsReadyTo, stand_left, tries_left, IsWaiting, IsStanding, IsAttempted, IsRetried}
+use Rattle.cmd_tasks.specs.declared.work.Many as declared_many
+use Rattle.cmd_tasks.specs.declared.work.Doing.{Doing}
+use Rattle.cmd_tasks.specs.declared.work.Doing.TheVariants.{Updates, Deletes}
 use Rattle.cmd_tasks.specs.declared.work.Wanted.{Wanted}
 use Rattle.cmd_tasks.specs.declared.work.Progress.{Progress}
 use Rattle.cmd_tasks.specs.declared.work.Part.{Part}
@@ -36,7 +41,7 @@ use Rattle.cmd_tasks.specs.declared.work.Updating.{Updating}
 use Rattle.cmd_tasks.specs.declared.trace.Item.{Item}
 use Rattle.cmd_tasks.specs.declared.trace.Item.TheVariants.{Lost}
 use Rattle.cmd_tasks.specs.declared.work.State.{State}
-use Rattle.cmd_tasks.specs.declared.work.State.TheVariants.{Inserting, Selecting, Listing, Counting, Choosing, Changing, Seeking, Deleting, Done}
+use Rattle.cmd_tasks.specs.declared.work.State.TheVariants.{Inserting, Selecting, Listing, Counting, Choosing, Changing, Seeking, Deleting, Paging, Trying, Retrying, Done}
 use Rattle.cmd_tasks.specs.declared.work.Moved.{Moved}
 use Rattle.cmd_tasks.specs.declared.work.Moved.TheVariants as m
 
@@ -58,6 +63,9 @@ asked (Choosing u progress) = Some (updating u)
 asked (Changing u read d) = Some (updating u)
 asked (Seeking d progress) = Some (deleting d)
 asked (Deleting d read id) = Some (deleting d)
+asked (Paging many stand) = Some (taking many)
+asked (Trying many stand attempt) = Some (taking many)
+asked (Retrying many stand id) = Some (taking many)
 asked (Done reply) = None
 
 -- the numbers of the page are within their bounds, and the state keeps how many were given before
@@ -81,7 +89,30 @@ IsReady (Choosing u progress) = IsUpdating u × (progress.shown < 10001)
 IsReady (Changing u read d) = IsUpdating u × KeepsLimits d
 IsReady (Seeking d progress) = IsDeletion d × (progress.shown < 10001) × AreShort progress.kept.items
 IsReady (Deleting d read id) = IsDeletion d × IsShort id
+IsReady (Paging many stand) = IsMany many × IsStand stand × (stand.is_whole ≡ false) × (stand.queue.items ≡ [])
+IsReady (Trying many stand attempt) = IsMany many × IsStand stand × (stand.matched < 20) × IsReadyTo attempt
+IsReady (Retrying many stand id) = IsMany many × IsStand stand × (stand.matched < 20) × IsShort id
 IsReady (Done reply) = ⊥
+
+-- updates are made as of this moment
+abbrev pub IsDoneAt : ℤ → Doing → Type 0
+IsDoneAt moment (Updates u at) = at ≡ moment
+IsDoneAt moment Deletes = ⊤
+
+-- how many writes of the request were accepted
+abbrev pub accepted_by : State → ℕ
+accepted_by (Inserting d) = 0
+accepted_by (Selecting search progress projection) = 0
+accepted_by (Listing search progress part) = 0
+accepted_by (Counting w last n) = 0
+accepted_by (Choosing u progress) = 0
+accepted_by (Changing u read d) = 0
+accepted_by (Seeking d progress) = 0
+accepted_by (Deleting d read id) = 0
+accepted_by (Paging many stand) = stand.modified
+accepted_by (Trying many stand attempt) = stand.modified
+accepted_by (Retrying many stand id) = stand.modified
+accepted_by (Done reply) = 0
 
 -- the state in which the command begins that was asked at this moment
 abbrev pub Begins : ℤ → CommandTree → State → Type 0
@@ -93,6 +124,9 @@ Begins moment c (Choosing u progress) = (asked (Choosing u progress) ≡ Some c)
 Begins moment c (Changing u read d) = ⊥
 Begins moment c (Seeking d progress) = (asked (Seeking d progress) ≡ Some c) × IsReady (Seeking d progress) × IsFresh None progress × (d.lost.items ≡ [])
 Begins moment c (Deleting d read id) = ⊥
+Begins moment c (Paging many stand) = (asked (Paging many stand) ≡ Some c) × IsReady (Paging many stand) × IsStart (option_map (λ p. p.last) many.page.value) stand × IsDoneAt moment many.doing
+Begins moment c (Trying many stand attempt) = ⊥
+Begins moment c (Retrying many stand id) = ⊥
 Begins moment c (Done reply) = ⊥
 
 -- of so many attempts that are left, each has a listing before it
@@ -110,6 +144,9 @@ left (Choosing u progress) = tries_rank (4 - length u.lost.items) + (rank_of pro
 left (Changing u read d) = tries_rank (4 - length u.lost.items)
 left (Seeking d progress) = tries_rank (4 - length d.lost.items) + (rank_of progress.last + 1)
 left (Deleting d read id) = tries_rank (4 - length d.lost.items)
+left (Paging many stand) = stand_left stand
+left (Trying many stand attempt) = stand_left stand + tries_left stand
+left (Retrying many stand id) = stand_left stand + (tries_left stand + 1)
 left (Done reply) = 0
 
 abbrev pub Steps : ℕ → ℕ → ℕ → State → List Entry → List Entry → Moved → Type 0
@@ -177,6 +214,9 @@ Fits s coll (Choosing u progress) = ⊤
 Fits s coll (Changing u read d) = IsMadeOfRead (Update u.updates u.moment d) (Some read) (version s coll (id_of d))
 Fits s coll (Seeking d progress) = ⊤
 Fits s coll (Deleting d read id) = ⊤
+Fits s coll (Paging many stand) = ⊤
+Fits s coll (Trying many stand attempt) = IsMadeOfRead attempt.change (Some attempt.read) (version s coll attempt.id)
+Fits s coll (Retrying many stand id) = ⊤
 Fits s coll (Done reply) = ⊤
 
 module _ (base : Base) (coll : Name) (k : ℕ) where
@@ -200,6 +240,10 @@ module _ (base : Base) (coll : Name) (k : ℕ) where
       pub makes : MakesAnother u.updates moment x.doc d
       pub seen : IsSeen base coll (filter_tree u.search.wanted.filter) x (round sights)
 
+    -- where a command stands that takes many
+    abbrev pub stands_at : declared_many.Many → List Sight → Standing
+    stands_at many sights = standing base coll (filter_tree many.wanted.filter) (doing_of many.doing) (option_map (λ p. p.last) many.page.value) sights
+
     -- the state keeps what the sights so far have shown
     abbrev pub Keeps : State → List Sight → Type 0
     Keeps (Inserting d) sights = ⊤
@@ -214,6 +258,12 @@ module _ (base : Base) (coll : Name) (k : ℕ) where
         IsSearching base coll None d.search progress (round sights)
         × (chosen base coll k (filter_tree d.search.wanted.filter) d.search.sort sights ≡ None) × (reverse d.lost.items ≡ losses sights)
     Keeps (Deleting d read id) sights = IsPicked base coll k d read id sights
+    Keeps (Paging many stand) sights =
+        let st = stands_at many sights in IsWaiting base coll st sights × (st.queue ≡ []) × (st.again ≡ false) × IsStanding stand st [] × IsDoneAt moment many.doing
+    Keeps (Trying many stand attempt) sights =
+        let st = stands_at many sights in IsWaiting base coll st sights × IsAttempted (doing_of many.doing) stand attempt st × IsDoneAt moment many.doing
+    Keeps (Retrying many stand id) sights =
+        let st = stands_at many sights in IsWaiting base coll st sights × IsRetried stand id st × IsDoneAt moment many.doing
     Keeps (Done reply) sights = ⊥
 
     abbrev pub IsUnderWay : State → List Sight → Type 0

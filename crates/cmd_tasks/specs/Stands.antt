@@ -15,7 +15,7 @@ use Rattle.cmd_tasks.specs.declared.trace.Item.{Item}
 use Rattle.cmd_tasks.specs.declared.task.Task.{Task}
 use Rattle.cmd_tasks.specs.declared.task.Served.{Served}
 use Rattle.cmd_tasks.specs.declared.work.State.{State}
-use Rattle.cmd_tasks.specs.declared.work.State.TheVariants.{Inserting, Selecting, Listing, Counting, Choosing, Changing, Seeking, Deleting, Done}
+use Rattle.cmd_tasks.specs.declared.work.State.TheVariants.{Inserting, Selecting, Listing, Counting, Choosing, Changing, Seeking, Deleting, Paging, Trying, Retrying, Done}
 
 -- the task isn't done, and stands on a history, which begins at this state where that is told
 pub record StandsOn (start : Option Base) (H : List Entry) (task : Task) : Type 0 where
@@ -45,6 +45,9 @@ IfDone (Choosing u progress) P = ⊥
 IfDone (Changing u read d) P = ⊥
 IfDone (Seeking d progress) P = ⊥
 IfDone (Deleting d read id) P = ⊥
+IfDone (Paging many stand) P = ⊥
+IfDone (Trying many stand attempt) P = ⊥
+IfDone (Retrying many stand id) P = ⊥
 IfDone (Done reply) P = P reply
 
 -- the request of a task that is done, as it was served

@@ -118,12 +118,12 @@ fn deletion_lost(
 
 /// The two ends of a mark in the place of the write of an id.
 #[derive(Drop)]
-struct Ends {
-    after: DocId,
-    up_to: DocId,
+pub(crate) struct Ends {
+    pub(crate) after: DocId,
+    pub(crate) up_to: DocId,
 }
 
-fn ends_of(alloc: Global, id: &DocId) -> Result<Ends, TreeFault>
+pub(crate) fn ends_of(alloc: Global, id: &DocId) -> Result<Ends, TreeFault>
     ensures { IfOk result (λ ends. (ends.after ≡ id.now) × (ends.up_to ≡ id.now)) }
 {
     Ok(Ends {

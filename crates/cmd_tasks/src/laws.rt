@@ -16,6 +16,7 @@ ghost use Rattle.cmd_grammar.specs.Commands.{CommandTree, Shows, command_tree};
 ghost use Rattle.cmd_tasks.specs.Served.{IsServed};
 ghost use Rattle.cmd_tasks.specs.Session.{Exchange, IsSession, IsAnswered, AreSessions, AreWithin, NoWork, Records};
 ghost use Rattle.cmd_tasks.specs.Joined.{Page, IdsAreTold, ArePages, ShowEachOnce};
+ghost use Rattle.cmd_tasks.specs.Moves.{accepted_by};
 ghost use Rattle.cmd_tasks.specs.Stands.{StandsOn};
 ghost use Rattle.cmd_tasks.specs.declared.task.Task.{Task as Tasked};
 ghost use Rattle.cmd_tasks.specs.declared.trace.Item.{Item as Seen};
@@ -30,7 +31,7 @@ pub fn others_may_append()
 /// The trace of a task that stands, with the reply for want of memory, was served.
 pub fn a_task_may_be_cut_off()
     ensures { (start : Option Base) (history : List Journaled) (task : Tasked) → StandsOn start history task
-        → ForSome start (λ base. IsServed base history task.coll task.session task.trace.moment (command_tree task.command.value) task.trace.items.items (NoMemory 0)) }
+        → ForSome start (λ base. IsServed base history task.coll task.session task.trace.moment (command_tree task.command.value) task.trace.items.items (NoMemory (accepted_by task.state))) }
 {}
 
 /// What was served stays served in every longer history.

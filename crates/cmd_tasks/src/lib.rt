@@ -6,9 +6,11 @@ mod deletes;
 mod finds;
 mod glance;
 mod laws;
+mod many;
 mod run;
 mod search;
 mod steps;
+mod taking;
 mod task;
 #[cfg(test)]
 mod tests;

@@ -6,6 +6,8 @@ ghost use Rattle.store_core.specs.declared.entry.Entry.{Entry as Journaled};
 ghost use Rattle.cmd_tasks.specs.Stands.{StandsOn};
 ghost use Rattle.cmd_grammar.specs.Commands.{command_tree, IsAskable};
 
+mod many;
+
 use crate::run::serve;
 use crate::task::{Next, Served, Task};
 use crate::trace::Item;

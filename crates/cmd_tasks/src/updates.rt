@@ -38,7 +38,7 @@ fn updated(matched: u64, modified: u64) -> Reply
 }
 
 /// The reply where the update is refused on the document.
-fn declined(alloc: Global, fault: UpdateFault) -> Reply
+pub(crate) fn declined(alloc: Global, fault: UpdateFault) -> Reply
     ensures cut { fault ≡ faults.NoMemory → result ≡ replies.NoMemory 0 }
     ensures told { fault ≢ faults.NoMemory → Refuses (error_of fault) result }
 {

@@ -5,7 +5,7 @@ ghost use Rattle.json_tree.specs.View.{tree};
 ghost use Rattle.json_text.specs.Print.{escaped, string_text, text_of};
 ghost use Rattle.name_tables.specs.Code.{code_text};
 ghost use Rattle.reply_env.specs.Messages.{out_of_memory};
-ghost use Rattle.reply_env.specs.Reply.{with_commas, view_text, state_text as page_text, listed_text, more_text, inserted_text, updated_text, deleted_text, error_text, errors_text, so_far_text, status_text, reply_text};
+ghost use Rattle.reply_env.specs.Reply.{with_commas, view_text, state_text as page_text, listed_text, more_text, inserted_text, updated_text, next_text, updated_page_text, deleted_text, deleted_page_text, error_text, errors_text, so_far_text, status_text, reply_text};
 
 use crate::fault::ReplyFault;
 use crate::fixed::no_memory_reply;
@@ -274,11 +274,74 @@ fn print_update(matched: u64, modified: u64, out: &mut Vec<u8>) -> Result<(), Al
     Ok(())
 }
 
+// Where the next page begins, where there is one.
+fn print_next(state: &Option<Text>, out: &mut Vec<u8>) -> Result<(), AllocError>
+    ensures { OnOk result (out.new.items ≡ out.old.items ++ next_text state.now) }
+{
+    match state {
+        None => Ok(()),
+        Some(state) => {
+            out.extend_from_slice(b",\"moreData\":true,\"nextPageState\":")?;
+            print_string(state.as_str(), out)
+        }
+    }
+}
+
+fn print_updated_page(
+    matched: u64,
+    modified: u64,
+    state: &Option<Text>,
+    out: &mut Vec<u8>,
+) -> Result<(), AllocError>
+    ensures { OnOk result (out.new.items ≡ out.old.items ++ updated_page_text matched modified state.now) }
+{
+    out.extend_from_slice(b"{\"matchedCount\":")?;
+    print_decimal(matched, out)?;
+    out.extend_from_slice(b",\"modifiedCount\":")?;
+    print_decimal(modified, out)?;
+    print_next(state, out)?;
+    out.push(b'}')?;
+    Ok(())
+}
+
+fn print_update_of_many(
+    matched: u64,
+    modified: u64,
+    state: &Option<Text>,
+    out: &mut Vec<u8>,
+) -> Result<(), AllocError>
+    ensures { OnOk result (out.new.items ≡ out.old.items ++ (codes "{\"status\":" ++ updated_page_text matched modified state.now ++ codes "}")) }
+{
+    out.extend_from_slice(b"{\"status\":")?;
+    print_updated_page(matched, modified, state, out)?;
+    out.push(b'}')?;
+    Ok(())
+}
+
+fn print_deleted_page(deleted: u64, more: bool, out: &mut Vec<u8>) -> Result<(), AllocError>
+    ensures { OnOk result (out.new.items ≡ out.old.items ++ deleted_page_text deleted more) }
+{
+    out.extend_from_slice(b"{\"deletedCount\":")?;
+    print_decimal(deleted, out)?;
+    print_more(more, out)?;
+    out.push(b'}')?;
+    Ok(())
+}
+
 fn print_deletion(deleted: u64, out: &mut Vec<u8>) -> Result<(), AllocError>
     ensures { OnOk result (out.new.items ≡ out.old.items ++ (codes "{\"status\":" ++ deleted_text deleted ++ codes "}")) }
 {
     out.extend_from_slice(b"{\"status\":")?;
     print_deleted(deleted, out)?;
+    out.push(b'}')?;
+    Ok(())
+}
+
+fn print_deletion_of_many(deleted: u64, more: bool, out: &mut Vec<u8>) -> Result<(), AllocError>
+    ensures { OnOk result (out.new.items ≡ out.old.items ++ (codes "{\"status\":" ++ deleted_page_text deleted more ++ codes "}")) }
+{
+    out.extend_from_slice(b"{\"status\":")?;
+    print_deleted_page(deleted, more, out)?;
     out.push(b'}')?;
     Ok(())
 }
@@ -310,7 +373,13 @@ fn print_behind(reply: &Reply, out: &mut Vec<u8>) -> Result<(), AllocError>
         Reply::Listed { views, state } => print_listed(views.as_slice(), state, out),
         Reply::Counted { count, more } => print_count(*count, *more, out),
         Reply::Updated { matched, modified } => print_update(*matched, *modified, out),
+        Reply::UpdatedMany {
+            matched,
+            modified,
+            state,
+        } => print_update_of_many(*matched, *modified, state, out),
         Reply::Deleted { deleted } => print_deletion(*deleted, out),
+        Reply::DeletedMany { deleted, more } => print_deletion_of_many(*deleted, *more, out),
         Reply::Refused { errors, so_far } => print_refused(errors.as_slice(), so_far, out),
         Reply::NoMemory { accepted } => print_no_memory(*accepted, out),
     }
