@@ -18,6 +18,10 @@ abbrev pub named_among : List Name → List ℕ → Option Name
 named_among [] text = None
 named_among (name ∷ names) text = if bytes_eq (command_text name) text then Some name else named_among names text
 
+-- the commands that are built
+abbrev pub built : List Name
+built = InsertOne ∷ FindOne ∷ Find ∷ CountDocuments ∷ UpdateOne ∷ UpdateMany ∷ DeleteOne ∷ DeleteMany ∷ []
+
 -- the command of this name
 abbrev pub command_named : List ℕ → Option Name
-command_named text = named_among (InsertOne ∷ FindOne ∷ Find ∷ CountDocuments ∷ UpdateOne ∷ UpdateMany ∷ DeleteOne ∷ DeleteMany ∷ []) text
+command_named text = named_among built text

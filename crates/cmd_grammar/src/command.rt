@@ -44,7 +44,12 @@ pub enum Command {
         page: Option<PageState>,
     },
     /// To delete the first document that matches, in the order of the sort.
-    DeleteOne { filter: Filter, sort: Sort },
+    DeleteOne {
+        filter: Filter,
+        sort: Sort,
+    },
     /// To delete the documents of one page that match.
-    DeleteMany { filter: Filter },
+    DeleteMany {
+        filter: Filter,
+    },
 }
