@@ -25,3 +25,5 @@ mod Ascent
 mod Covering
 mod Client
 mod Deletions
+mod Settling
+mod Goings
