@@ -27,3 +27,5 @@ mod Ascent
 mod Covering
 mod Client
 mod Deletions
+mod Settling
+mod Goings
