@@ -25,3 +25,7 @@ mod Ascent
 mod Covering
 mod Client
 mod Deletions
+mod Settling
+mod Goings
+mod Waiting
+mod Apart

@@ -1,5 +1,5 @@
 -- What the steps of a command that takes many documents make of a page, an attempt and a look at one alone, told or not.
-use Rattle.std.specs.Prelude.{◌≡◌, ◌⊎◌, ℕ, ◌<◌, ◌≤◌, List, [], ◌∷◌, ◌++◌, length, reverse, is_none, Option, Some, None, if◌then◌else◌}
+use Rattle.std.specs.Prelude.{◌≡◌, ◌⊎◌, ℕ, ◌<◌, ◌≤◌, List, [], ◌∷◌, ◌++◌, length, reverse, is_none, false, Option, Some, None, if◌then◌else◌}
 use Rattle.std.proofs.Common.{Vec, Global}
 use Rattle.json_tree.specs.Tree.{Tree}
 use Rattle.shred_cols.specs.Row.{Version}
@@ -7,17 +7,15 @@ use Rattle.filter_tree.specs.Filters.{FilterTree}
 use Rattle.filter_tree.specs.Matches.{matches}
 use Rattle.filter_tree.specs.View.{filter_tree}
 use Rattle.reply_env.specs.Messages as errors
-use Rattle.reply_env.specs.Reply.{IsRefusalAfter}
 use Rattle.reply_env.specs.declared.reply.ErrorItem.{ErrorItem}
 use Rattle.reply_env.specs.declared.reply.Reply.{Reply}
 use Rattle.reply_env.specs.declared.reply.Reply.TheVariants.{NoMemory}
 use Rattle.reply_env.specs.declared.update_errors.Loss.{Loss}
-use Rattle.cmd_tasks.specs.Taking.{Standing}
-use Rattle.cmd_tasks.specs.Turns.{so_far_of}
+use Rattle.cmd_tasks.specs.Taking.{Standing, settle}
 use Rattle.cmd_tasks.specs.Pages.{pair_of}
 use Rattle.cmd_tasks.specs.Looking.{IsLooked, Refuses}
-use Rattle.cmd_tasks.specs.Many.{doing_of}
-use Rattle.cmd_tasks.specs.Going.{GoesReady, GoesWherever}
+use Rattle.cmd_tasks.specs.Many.{doing_of, IsStanding}
+use Rattle.cmd_tasks.specs.Going.{GoesOnFrom, GoesReady, RefusesAfter}
 use Rattle.cmd_tasks.specs.declared.trace.Item.{Item}
 use Rattle.cmd_tasks.specs.declared.trace.Item.TheVariants.{Lost}
 use Rattle.cmd_tasks.specs.declared.work.Doing.{Doing}
@@ -43,7 +41,7 @@ pub record HasPage (stand : Stand) (rows : List Version) (last : Option Tree) (n
 
 -- the reply tells the error, and what was written before, wherever as many were counted and changed as here
 abbrev pub TellsAfter : Doing → Stand → ErrorItem → Reply → Type 0
-TellsAfter doing stand error reply = (st : Standing) → stand.matched ≡ st.matched → stand.modified ≡ st.modified → IsRefusalAfter (so_far_of (doing_of doing) st) error reply ⊎ (reply ≡ NoMemory st.modified)
+TellsAfter doing stand error reply = (st : Standing) → stand.matched ≡ st.matched → stand.modified ≡ st.modified → RefusesAfter (doing_of doing) st error reply
 
 -- where the one step ends, the other ends with the same item, and tells what was written before
 abbrev pub EndsAfter : Doing → Stand → Moved → Moved → Type 0
@@ -102,4 +100,4 @@ pub record Retakes (at : ℕ) (after up : Tree) (many : Many) (stand : Stand) (r
   pub new : Stand
   pub has : HasFirst stand (matching_row (filter_tree many.wanted.filter) row) new
   pub ready : GoesReady many item new o
-  pub goes : GoesWherever many item new o
+  pub goes : (st : Standing) → IsStanding new st st.queue → st.again ≡ false → GoesOnFrom many item (settle (doing_of many.doing) st) o
