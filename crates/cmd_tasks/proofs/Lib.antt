@@ -29,3 +29,6 @@ mod Settling
 mod Goings
 mod Waiting
 mod Apart
+mod Fitting
+mod Following
+mod Accepting

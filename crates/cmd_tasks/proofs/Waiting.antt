@@ -4,6 +4,7 @@ use Rattle.std.specs.Prelude.{◌&&◌, ◌||◌, IfSome, is_none, nat_lt, optio
 use Rattle.std.specs.List.{AllByRecursion as Each}
 use Rattle.std.specs.Ordering.{is_lt, is_le, is_eq, eq_by_cmp}
 use Rattle.std.specs.Str.{bytes_eq}
+use Rattle.std.proofs.lemmas.Cmp.{tied_itself}
 use Rattle.json_tree.specs.Tree.{Tree}
 use Rattle.json_tree.specs.Id.{id_cmp}
 use Rattle.shred_cols.specs.Rows.{Rows, ascends, version_of, is_after}
@@ -164,7 +165,7 @@ module _ (base : Base) (coll : Name) where
   -- the request wrote nothing to the first one
   pub unwritten : (from : Option Tree) (whole : Bool) (first : Shown) (rest : List Shown) (sights : List Sight) → Waits from whole (first ∷ rest) sights → is_written coll first.x.id sights ≡ false
   unwritten from whole first rest sights h = elim (is_written coll first.x.id sights) as (λ b. is_written coll first.x.id sights ≡ b → b ≡ false) [
-    | true ↦ λ w. absurd (no (sym (ap is_lt (Rattle.std.proofs.lemmas.Cmp.tied_itself ids_total first.x.id)) ∙ (h.written first.x.id w).1.0))
+    | true ↦ λ w. absurd (no (sym (ap is_lt (tied_itself ids_total first.x.id)) ∙ (h.written first.x.id w).1.0))
     | false ↦ λ w. refl
   ] refl
 
