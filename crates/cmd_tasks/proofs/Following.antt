@@ -34,7 +34,8 @@ use Rattle.cmd_tasks.specs.declared.work.State.TheVariants.{Inserting, Selecting
 use Rattle.cmd_tasks.specs.declared.work.Moved.{Moved}
 use Rattle.cmd_tasks.specs.declared.work.Moved.TheVariants as m
 use Rattle.cmd_tasks.specs.declared.trace.Item.{Item}
-use Rattle.cmd_tasks.specs.declared.trace.Item.TheVariants.{Looked, Wrote, Lost, Faulted}
+use Rattle.cmd_tasks.proofs.Requests.{stops_wrote}
+use Rattle.cmd_tasks.proofs.Accepted.{many_accepts}
 
 -- ---- turns
 
@@ -75,62 +76,6 @@ settled_again doing (s ∷ rest) st = elim (nat_lt st.matched 20 && is_unchanged
   | false ↦ refl
 ]
 
-settled_modified : (doing : Doing) (queue : List Shown) (st : Standing) → (settled doing queue st).modified ≡ st.modified
-settled_modified doing [] st = refl
-settled_modified doing (s ∷ rest) st = elim (nat_lt st.matched 20 && is_unchanged (change_of doing s.x.doc)) as (λ b. (if b then settled doing rest (count s.x 0 rest st) else record st { queue = s ∷ rest }).modified ≡ st.modified) [
-  | true ↦ settled_modified doing rest (count s.x 0 rest st) ∙ omega arith
-  | false ↦ refl
-]
-
-win_modified : (queue : List Shown) (st : Standing) (first : Shown) (rest : List Shown) → queue ≡ first ∷ rest → (win queue st).modified ≡ 1 + st.modified
-win_modified [] st first rest e = cc
-win_modified (x ∷ xs) st first rest e = omega arith
-
-module _ (base : Base) (coll : Name) (f : FilterTree) where
-  replace_modified : (s : Sight) (xs : List Found) (rest : List Shown) (st : Standing) → (replace base coll f s xs rest st).modified ≡ st.modified
-  replace_modified s [] rest st = refl
-  replace_modified s (x ∷ xs) rest st = refl
-
-  again_modified : (s : Sight) (queue : List Shown) (st : Standing) → (look_again base coll f s queue st).modified ≡ st.modified
-  again_modified s [] st = refl
-  again_modified s (first ∷ rest) st = replace_modified s (shown_alone base coll f first.x.id s) rest st
-
-  look_modified : (again : Bool) (s : Sight) (st : Standing) → (with_look base coll f again s st).modified ≡ st.modified
-  look_modified false s st = refl
-  look_modified true s st = again_modified s st.queue st
-
-  -- a write that was accepted is of the first that waited
-  module _ (k : ℕ) (doing : Doing) where
-    HasOne : List Shown → Type 0
-    HasOne queue = (first : Shown) × (rest : List Shown) × (queue ≡ first ∷ rest)
-
-    none_looked : (at : ℕ) (i : Item) (from : Option Tree) (s : Sight) → i ≡ Wrote at → Looks base coll f (rows_now base coll s) from i → ⊥
-    none_looked at (Looked a b c e) from s is h = cc
-    none_looked at (Wrote a) from s is h = h
-    none_looked at (Lost a b c) from s is h = h
-    none_looked at (Faulted a b c) from s is h = h
-
-    on_first : (queue : List Shown) (st : Standing) (s : Sight) (at : ℕ) → s.item ≡ Wrote at → Follows base coll k f (turn_on doing queue st) s → HasOne queue
-    on_first [] st s at is h = elim st.is_whole as (λ b. Follows base coll k f (if b then is_done false else looks_on st.from) s → HasOne []) [
-      | true ↦ λ z. absurd z
-      | false ↦ λ z. absurd (none_looked at s.item st.from s is z.0.1)
-    ] h
-    on_first (x ∷ rest) st s at is h = (x, rest, refl)
-
-    again_first : (queue : List Shown) (st : Standing) (s : Sight) → Follows base coll k f (turn_again queue st) s → HasOne queue
-    again_first [] st s h = absurd h
-    again_first (x ∷ rest) st s h = (x, rest, refl)
-
-    turn_first : (again : Bool) (st : Standing) (s : Sight) (at : ℕ) → s.item ≡ Wrote at → Follows base coll k f (turn_of again doing st) s → HasOne st.queue
-    turn_first false st s at is h = on_first st.queue st s at is h
-    turn_first true st s at is h = again_first st.queue st s h
-
-    pub item_modified : (i : Item) (s : Sight) (st : Standing) → s.item ≡ i → Follows base coll k f (turn doing st) s → (with_item base coll f doing i s st).modified ≡ one_if_wrote i + st.modified
-    item_modified (Looked at after up shown) s st is h = let l = with_look base coll f st.again s st in settled_modified doing l.queue l ∙ (look_modified st.again s st ∙ omega arith)
-    item_modified (Wrote at) s st is h = let w = win st.queue st in let x = turn_first st.again st s at is h in settled_modified doing w.queue w ∙ win_modified st.queue st x.0 x.1 x.2
-    item_modified (Lost at read found) s st is h = omega arith
-    item_modified (Faulted at before n) s st is h = omega arith
-
 -- ---- what the command says, by where it stands
 
 module _ (base : Base) (coll : Name) (k : ℕ) (moment : ℤ) (f : FilterTree) where
@@ -145,6 +90,7 @@ module _ (base : Base) (coll : Name) (k : ℕ) (moment : ℤ) (f : FilterTree) w
     pub marks : (sights : List Sight) (after up : Option Tree) → MarksTurn (turn doing (stands_for doing page sights)) after up → Marks base coll k moment c sights after up
     pub writes : (sights : List Sight) → IsWrite (turn doing (stands_for doing page sights)) → IsToWrite base coll k moment c sights
     pub to_write : (sights : List Sight) → IsToWrite base coll k moment c sights → IsWrite (turn doing (stands_for doing page sights))
+    pub counts : (sights : List Sight) → IsPartOf base coll k moment c sights → accepted sights ≡ (stands_for doing page sights).modified
     pub done : (sights : List Sight) → done_by base coll k moment c sights ≡ so_far_of doing (stands_for doing page sights)
 
   pub reads : (doing : declared_doing.Doing) (page : Option PageState) → IsDoneAt moment doing → MayPage doing page → Reads (taking_for f page doing) (doing_of doing) page
@@ -156,6 +102,7 @@ module _ (base : Base) (coll : Name) (k : ℕ) (moment : ℤ) (f : FilterTree) w
     marks = λ sights after up h. h;
     writes = λ sights h. h;
     to_write = λ sights h. h;
+    counts = many_accepts base coll k moment f (d.Updates u moment) page refl tt;
     done = λ sights. refl;
   })
   reads d.Deletes page done may = subst (λ (p : Option PageState). Reads (delete_many f) deletes p) (sym may) (record {
@@ -166,22 +113,9 @@ module _ (base : Base) (coll : Name) (k : ℕ) (moment : ℤ) (f : FilterTree) w
     marks = λ sights after up h. h;
     writes = λ sights h. h;
     to_write = λ sights h. h;
+    counts = many_accepts base coll k moment f d.Deletes None tt refl;
     done = λ sights. refl;
   })
-
-  -- as many writes were accepted as documents are counted as changed
-  pub modified_is : (c : CommandTree) (doing : Doing) (page : Option PageState) → Reads c doing page → (sights : List Sight) → IsPartOf base coll k moment c sights → accepted sights ≡ (stands_for doing page sights).modified
-  modified_is c doing page reads [] h = refl
-  modified_is c doing page reads (s ∷ earlier) h =
-      let a = modified_is c doing page reads earlier h.0 in
-      let b = item_modified base coll f k doing s.item s (stands_for doing page earlier) refl (reads.followed earlier s h.2) in
-      ap (λ (n : ℕ). one_if_wrote s.item + n) a ∙ sym b
-
-  stops_wrote : (marks : Option Tree → Option Tree → Type 0) (to_write : Type 0) (i : Item) (s : Sight) (error : ErrorItem) → Stops base coll k marks to_write i s error → one_if_wrote i ≡ 0
-  stops_wrote marks to_write (Looked at after up_to shown) s error h = refl
-  stops_wrote marks to_write (Wrote at) s error h = absurd h
-  stops_wrote marks to_write (Lost at read found) s error h = absurd h
-  stops_wrote marks to_write (Faulted at before count) s error h = refl
 
   -- the command stops at an item, and tells what was written before, or memory was wanting for that
   pub many_stopped : (c : CommandTree) (doing : Doing) (page : Option PageState) → Reads c doing page → (earlier : List Sight) (s : Sight) (error : ErrorItem) (reply : Reply) → IsBegun base coll k moment c earlier
@@ -189,8 +123,8 @@ module _ (base : Base) (coll : Name) (k : ℕ) (moment : ℤ) (f : FilterTree) w
   many_stopped c doing page reads earlier s error reply begun stops refuses = ⊎_elim
       (λ (r : IsRefusalAfter (so_far_of doing (stands_for doing page earlier)) error reply). inr (inl (error, (begun.0, begun.1, stops), subst (λ (z : Option SoFar). IsRefusalAfter z error reply) (sym (reads.done earlier)) r)))
       (λ (e : reply ≡ NoMemory (stands_for doing page earlier).modified).
-          let a = modified_is c doing page reads earlier begun.0 in
-          let b = stops_wrote _ _ s.item s error stops in
+          let a = reads.counts earlier begun.0 in
+          let b = stops_wrote base coll k moment _ _ s.item s error stops in
           let z : (stands_for doing page earlier).modified ≡ one_if_wrote s.item + accepted earlier = omega arith in
           inr (inr (inr (error, (begun.0, begun.1, stops)), e ∙ ap NoMemory z)))
       refuses
@@ -238,7 +172,7 @@ module _ (base : Base) (coll : Name) (k : ℕ) (moment : ℤ) (many : Many) (don
     ends_with : (i : Item) (reply : Reply) → i ≡ item → Ends doing many.page.value st (turn doing st) reply ⊎ (reply ≡ NoMemory st.modified) → Serves base coll k moment c (sight H' i ∷ earlier) reply
     ends_with i reply is h = subst (λ (z : Item). Serves base coll k moment c (sight H' z ∷ earlier) reply) (sym is) (⊎_elim
         (λ (e : Ends doing many.page.value st (turn doing st) reply). inl (part, tells.ends sights reply e))
-        (λ (e : reply ≡ NoMemory st.modified). inr (inr (inl part, e ∙ ap NoMemory (sym (modified_is base coll k moment (filter_tree many.wanted.filter) c doing many.page.value tells sights part)))))
+        (λ (e : reply ≡ NoMemory st.modified). inr (inr (inl part, e ∙ ap NoMemory (sym (tells.counts sights part)))))
         h)
 
     pub goes_leads : (w : State) (o : Moved) → asked w ≡ Some c → GoesOnFrom many item st o → Leads base coll k moment H' w earlier o

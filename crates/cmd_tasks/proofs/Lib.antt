@@ -13,11 +13,13 @@ mod Searching
 mod Requests
 mod Selecting
 mod Beginnings
+mod Accepted
 mod Standing
 mod Running
 mod Opening
 pub mod Attempts
 pub mod Lookback
+mod Fitting
 pub mod Rounds
 pub mod Tries
 pub mod Contests
@@ -29,6 +31,4 @@ mod Settling
 mod Goings
 mod Waiting
 mod Apart
-mod Fitting
 mod Following
-mod Accepting

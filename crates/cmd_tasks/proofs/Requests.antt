@@ -29,7 +29,7 @@ use Rattle.store_core.specs.declared.outcome.WriteOutcome.TheVariants as w
 use Rattle.view_sort.specs.Sort.{SortKeys}
 use Rattle.cmd_grammar.specs.Commands.{CommandTree, Shows, Paging, insert_one, find_one, find, count_documents, update_one, update_many, delete_one, delete_many}
 use Rattle.cmd_tasks.specs.Trace.{Sight, sight, now, shown, shown_by, IsLook, Looks}
-use Rattle.cmd_tasks.specs.Served.{IsPartOf, Serves, Stops, Marks, IsToWrite, IsMarked, IsInserted, IsTaken, TellsInserted, done_by, counted, accepted, one_if_wrote}
+use Rattle.cmd_tasks.specs.Served.{IsPartOf, Serves, Stops, Marks, IsToWrite, IsMarked, done_by, IsInserted, IsTaken, TellsInserted, counted, accepted, one_if_wrote}
 use Rattle.cmd_tasks.specs.Pages.{found_row}
 use Rattle.cmd_tasks.specs.Wanted.{IsWanted}
 use Rattle.cmd_tasks.specs.Looking.{Made, Glances, Sees, StopsSo, Refuses, IsLooked}
@@ -95,19 +95,19 @@ gone_not_spent at n e = cc
 pub marked_so : (coll : Name) (k : ℕ) (base : Base) (W : Type 0) (s : Sight) (error : ErrorItem) → W → IsNoWrite coll (now base coll s) error → IsMarked base coll k W s error
 marked_so coll k base W s error writes cause = ⊎_elim (λ z. inl (writes, z.0, z.1)) (λ z. inr ((λ w. z.0), z.1, z.2)) cause
 
--- the command ends with its first write that is accepted
-abbrev pub WritesOnce : CommandTree → Type 0
-WritesOnce (insert_one d) = ⊤
-WritesOnce (find_one f sort shows) = ⊤
-WritesOnce (find f sort shows p) = ⊤
-WritesOnce (count_documents f) = ⊤
-WritesOnce (update_one f u sort) = ⊤
-WritesOnce (update_many f u page) = ⊥
-WritesOnce (delete_one f sort) = ⊤
-WritesOnce (delete_many f) = ⊥
+-- commands that end with their first accepted write
+abbrev pub IsSingle : CommandTree → Type 0
+IsSingle (insert_one d) = ⊤
+IsSingle (find_one f sort shows) = ⊤
+IsSingle (find f sort shows p) = ⊤
+IsSingle (count_documents f) = ⊤
+IsSingle (update_one f u sort) = ⊤
+IsSingle (update_many f u page) = ⊥
+IsSingle (delete_one f sort) = ⊤
+IsSingle (delete_many f) = ⊥
 
 module _ (base : Base) (coll : Name) (k : ℕ) (moment : ℤ) where
-  looks_wrote : (f : FilterTree) (r : Rows) (from : Option Tree) (i : Item) → Looks base coll f r from i → one_if_wrote i ≡ 0
+  pub looks_wrote : (f : FilterTree) (r : Rows) (from : Option Tree) (i : Item) → Looks base coll f r from i → one_if_wrote i ≡ 0
   looks_wrote f r from (Looked at after up shown) h = refl
   looks_wrote f r from (Wrote at) h = absurd h
   looks_wrote f r from (Lost at read found) h = absurd h
@@ -125,47 +125,48 @@ module _ (base : Base) (coll : Name) (k : ℕ) (moment : ℤ) where
   count_accepts f [] h = refl
   count_accepts f (s ∷ earlier) h = let a = count_accepts f earlier h.0 in let b = looks_wrote f _ _ s.item h.2.1 in omega arith
 
-  pub accepts : (c : CommandTree) → WritesOnce c → (s : List Sight) → IsBegun base coll k moment c s → accepted s ≡ 0
-  accepts (insert_one d) once s h = ap accepted h.1
-  accepts (find_one f sort shows) once s h = find_one_accepts f sort shows s h.0
-  accepts (find f sort shows p) once s h = find_accepts f sort shows p s h.0
-  accepts (count_documents f) once s h = count_accepts f s h.0
-  accepts (update_one f u sort) once s h = h.1.0
-  accepts (update_many f u page) once s h = absurd once
-  accepts (delete_one f sort) once s h = h.1.0
-  accepts (delete_many f) once s h = absurd once
+  -- as long as one that ends with its first accepted write is under way, none was accepted
+  pub accepts : (c : CommandTree) → IsSingle c → (s : List Sight) → IsBegun base coll k moment c s → accepted s ≡ 0
+  accepts (insert_one d) one s h = ap accepted h.1
+  accepts (find_one f sort shows) one s h = find_one_accepts f sort shows s h.0
+  accepts (find f sort shows p) one s h = find_accepts f sort shows p s h.0
+  accepts (count_documents f) one s h = count_accepts f s h.0
+  accepts (update_one f u sort) one s h = h.1.0
+  accepts (update_many f u page) one s h = absurd one
+  accepts (delete_one f sort) one s h = h.1.0
+  accepts (delete_many f) one s h = absurd one
 
-  none_done : (c : CommandTree) → WritesOnce c → (s : List Sight) → done_by base coll k moment c s ≡ None
-  none_done (insert_one d) once s = refl
-  none_done (find_one f sort shows) once s = refl
-  none_done (find f sort shows p) once s = refl
-  none_done (count_documents f) once s = refl
-  none_done (update_one f u sort) once s = refl
-  none_done (update_many f u page) once s = absurd once
-  none_done (delete_one f sort) once s = refl
-  none_done (delete_many f) once s = absurd once
+  nothing_done : (c : CommandTree) → IsSingle c → (s : List Sight) → done_by base coll k moment c s ≡ None
+  nothing_done (insert_one d) one s = refl
+  nothing_done (find_one f sort shows) one s = refl
+  nothing_done (find f sort shows p) one s = refl
+  nothing_done (count_documents f) one s = refl
+  nothing_done (update_one f u sort) one s = refl
+  nothing_done (update_many f u page) one s = absurd one
+  nothing_done (delete_one f sort) one s = refl
+  nothing_done (delete_many f) one s = absurd one
 
   -- a request that is under way may end for want of memory
   pub cut_off : (c : CommandTree) (s : List Sight) → IsBegun base coll k moment c s → Serves base coll k moment c s (NoMemory (accepted s))
   cut_off c s h = inr (inr (inl h.0, refl))
 
-  stops_wrote : (marks : Option Tree → Option Tree → Type 0) (to_write : Type 0) (i : Item) (s : Sight) (error : ErrorItem) → Stops base coll k marks to_write i s error → one_if_wrote i ≡ 0
+  pub stops_wrote : (marks : Option Tree → Option Tree → Type 0) (to_write : Type 0) (i : Item) (s : Sight) (error : ErrorItem) → Stops base coll k marks to_write i s error → one_if_wrote i ≡ 0
   stops_wrote marks to_write (Looked at after up shown) s error h = refl
   stops_wrote marks to_write (Wrote at) s error h = absurd h
   stops_wrote marks to_write (Lost at read found) s error h = absurd h
   stops_wrote marks to_write (Faulted at before count) s error h = refl
 
   -- a request that stops at an item, whether its error was told or memory was wanting
-  pub stopped_serves : (c : CommandTree) → WritesOnce c → (earlier : List Sight) (s : Sight) (error : ErrorItem) (reply : Reply) → IsBegun base coll k moment c earlier
+  pub stopped_serves : (c : CommandTree) → IsSingle c → (earlier : List Sight) (s : Sight) (error : ErrorItem) (reply : Reply) → IsBegun base coll k moment c earlier
       → Stops base coll k (Marks base coll k moment c earlier) (IsToWrite base coll k moment c earlier) s.item s error → Refuses error reply → Serves base coll k moment c (s ∷ earlier) reply
-  stopped_serves c once earlier s error reply begun stops refuses = ⊎_elim
-      (λ (r : IsRefusal error reply). inr (inl (error, (begun.0, begun.1, stops), subst (λ (z : Option SoFar). IsRefusalAfter z error reply) (sym (none_done c once earlier)) r)))
-      (λ (e : reply ≡ NoMemory 0). let a = accepts c once earlier begun in let b = stops_wrote _ _ s.item s error stops in let z : 0 ≡ one_if_wrote s.item + accepted earlier = omega arith in inr (inr (inr (error, (begun.0, begun.1, stops)), e ∙ ap NoMemory z)))
+  stopped_serves c one earlier s error reply begun stops refuses = ⊎_elim
+      (λ (r : IsRefusal error reply). inr (inl (error, (begun.0, begun.1, stops), subst (λ (z : Option SoFar). IsRefusalAfter z error reply) (sym (nothing_done c one earlier)) r)))
+      (λ (e : reply ≡ NoMemory 0). let a = accepts c one earlier begun in let b = stops_wrote _ _ s.item s error stops in let z : 0 ≡ one_if_wrote s.item + accepted earlier = omega arith in inr (inr (inr (error, (begun.0, begun.1, stops)), e ∙ ap NoMemory z)))
       refuses
 
-  pub failed_serves : (c : CommandTree) → WritesOnce c → (earlier : List Sight) (H H' : List Entry) (at before count : ℕ) (reply : Reply) → IsBegun base coll k moment c earlier → H' ≡ H ++ Failed k before count ∷ [] → at ≡ length H
+  pub failed_serves : (c : CommandTree) → IsSingle c → (earlier : List Sight) (H H' : List Entry) (at before count : ℕ) (reply : Reply) → IsBegun base coll k moment c earlier → H' ≡ H ++ Failed k before count ∷ [] → at ≡ length H
       → Refuses (errors.store_fault before count) reply → Serves base coll k moment c (sight H' (Faulted at before count) ∷ earlier) reply
-  failed_serves c once earlier H H' at before count reply begun longer here refuses = stopped_serves c once earlier (sight H' (Faulted at before count)) (errors.store_fault before count) reply begun (saw_entry H H' (Failed k before count) at longer here, refl) refuses
+  failed_serves c one earlier H H' at before count reply begun longer here refuses = stopped_serves c one earlier (sight H' (Faulted at before count)) (errors.store_fault before count) reply begun (saw_entry H H' (Failed k before count) at longer here, refl) refuses
 
   -- ---- insertOne
 

@@ -29,9 +29,10 @@ use Rattle.cmd_tasks.specs.Placed.{IsPlaced}
 use Rattle.cmd_tasks.specs.Rank.{rank_of}
 use Rattle.cmd_tasks.specs.Looking.{Made, IsLooked, Refuses}
 use Rattle.cmd_tasks.specs.Moves.{updating, tries_rank, IsUpdating, Steps, Leads, IsUnderWay, IsChosen, LosesTo, Fits, EndsSo, EndsMarked, with_loss}
+use Rattle.cmd_tasks.specs.Many.{doing_of}
 use Rattle.cmd_tasks.specs.declared.work.Updating.{Updating}
 use Rattle.cmd_tasks.specs.declared.work.State.{State}
-use Rattle.cmd_tasks.specs.declared.work.State.TheVariants.{Inserting, Selecting, Listing, Counting, Choosing, Changing, Seeking, Deleting, Done}
+use Rattle.cmd_tasks.specs.declared.work.State.TheVariants.{Inserting, Selecting, Listing, Counting, Choosing, Changing, Seeking, Deleting, Paging, Trying, Retrying, Done}
 use Rattle.cmd_tasks.specs.declared.work.Moved.{Moved}
 use Rattle.cmd_tasks.specs.declared.work.Moved.TheVariants as m
 use Rattle.cmd_tasks.specs.declared.trace.Item.{Item}
@@ -41,6 +42,7 @@ use Rattle.cmd_tasks.proofs.Requests.{IsNoWrite, marked_so, stopped_serves, fail
 use Rattle.cmd_tasks.proofs.Fresh.{match_some, match_none, some_is, fresh_searching, none_first}
 use Rattle.cmd_tasks.proofs.Attempts.{same_some, GivenOnce, Touched}
 use Rattle.cmd_tasks.proofs.Lookback.{still_same, came_between}
+use Rattle.cmd_tasks.proofs.Fitting.{fits_attempt}
 
 -- ---- what a step is, told or not
 
@@ -186,4 +188,7 @@ fits_so once base coll k moment (Choosing u p) H trace placed lawful apart old w
 fits_so once base coll k moment (Changing u read d) H trace placed lawful apart old way = fits_now base coll k moment u read d H trace placed lawful apart way once old (version (replay base H) coll (id_of d)) refl
 fits_so once base coll k moment (Seeking d p) H trace placed lawful apart old way = tt
 fits_so once base coll k moment (Deleting d read id) H trace placed lawful apart old way = tt
+fits_so once base coll k moment (Paging many stand) H trace placed lawful apart old way = tt
+fits_so once base coll k moment (Trying many stand attempt) H trace placed lawful apart old way = fits_attempt base coll (doing_of many.doing) stand attempt _ H trace way.1.0 way.1.1 once lawful apart old (version (replay base H) coll attempt.id) refl
+fits_so once base coll k moment (Retrying many stand id) H trace placed lawful apart old way = tt
 fits_so once base coll k moment (Done r) H trace placed lawful apart old way = tt
