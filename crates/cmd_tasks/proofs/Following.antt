@@ -85,7 +85,6 @@ module _ (base : Base) (coll : Name) (k : ℕ) (moment : ℤ) (f : FilterTree) w
   pub record Reads (c : CommandTree) (doing : Doing) (page : Option PageState) : Type 0 where
     pub opens : (sights : List Sight) → IsOn (turn doing (stands_for doing page sights)) → IsOpen base coll k moment c sights
     pub follows : (sights : List Sight) (s : Sight) → Follows base coll k f (turn doing (stands_for doing page sights)) s → Next base coll k moment c sights s
-    pub followed : (sights : List Sight) (s : Sight) → Next base coll k moment c sights s → Follows base coll k f (turn doing (stands_for doing page sights)) s
     pub ends : (sights : List Sight) (reply : Reply) → Ends doing page (stands_for doing page sights) (turn doing (stands_for doing page sights)) reply → Answers base coll k moment c sights reply
     pub marks : (sights : List Sight) (after up : Option Tree) → MarksTurn (turn doing (stands_for doing page sights)) after up → Marks base coll k moment c sights after up
     pub writes : (sights : List Sight) → IsWrite (turn doing (stands_for doing page sights)) → IsToWrite base coll k moment c sights
@@ -97,7 +96,6 @@ module _ (base : Base) (coll : Name) (k : ℕ) (moment : ℤ) (f : FilterTree) w
   reads (d.Updates u at) page done may = subst (λ (n : ℤ). Reads (update_many f u page) (updates u n) page) (sym done) (record {
     opens = λ sights h. h;
     follows = λ sights s h. h;
-    followed = λ sights s h. h;
     ends = λ sights reply h. h;
     marks = λ sights after up h. h;
     writes = λ sights h. h;
@@ -108,7 +106,6 @@ module _ (base : Base) (coll : Name) (k : ℕ) (moment : ℤ) (f : FilterTree) w
   reads d.Deletes page done may = subst (λ (p : Option PageState). Reads (delete_many f) deletes p) (sym may) (record {
     opens = λ sights h. h;
     follows = λ sights s h. h;
-    followed = λ sights s h. h;
     ends = λ sights reply h. h;
     marks = λ sights after up h. h;
     writes = λ sights h. h;
@@ -144,7 +141,7 @@ module _ (base : Base) (coll : Name) (k : ℕ) (moment : ℤ) (many : Many) (don
   abbrev st : Standing
   st = stands_at base coll k moment many sights
 
-  tells : Reads base coll k moment (filter_tree many.wanted.filter) c doing many.page.value
+  pub tells : Reads base coll k moment (filter_tree many.wanted.filter) c doing many.page.value
   tells = reads base coll k moment (filter_tree many.wanted.filter) many.doing many.page.value done may
 
   module _ (part : IsPartOf base coll k moment c sights) (again : st.again ≡ false) (waiting : IsWaiting base coll st sights) where

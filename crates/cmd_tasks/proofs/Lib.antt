@@ -32,3 +32,6 @@ mod Goings
 mod Waiting
 mod Apart
 mod Following
+mod Leavings
+mod Pagings
+mod Trials
