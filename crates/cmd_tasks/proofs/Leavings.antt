@@ -13,8 +13,9 @@ use Rattle.cmd_tasks.specs.Rank.{rank_of}
 use Rattle.cmd_tasks.specs.Looking.{Made, GoesUp, Glances, AreShort}
 use Rattle.cmd_tasks.specs.Many.{taking, IsMany, IsStand, IsReadyTo, pages_left, stand_left, tries_left}
 use Rattle.cmd_tasks.specs.Going.{IsCounted, waiting_left, unsettled_left, GoesReady}
-use Rattle.cmd_tasks.specs.ManySteps.{HasPage, HasFirst, LosesOne, lost_with, rows_with, losses_with}
+use Rattle.cmd_tasks.specs.ManySteps.{HasPage, HasFirst, LosesOne, EndsAfter}
 use Rattle.cmd_tasks.specs.Moves.{asked, IsReady, left, Steps}
+use Rattle.cmd_tasks.specs.declared.work.Doing as declared_doing
 use Rattle.cmd_tasks.specs.declared.work.Many.{Many}
 use Rattle.cmd_tasks.specs.declared.work.Stand.{Stand}
 use Rattle.cmd_tasks.specs.declared.work.Attempt.{Attempt}
@@ -150,3 +151,12 @@ first_less stand new (Some v) h =
 
 pub again_steps : (k low high : ℕ) (H H' : List Entry) (many : Many) (stand new : Stand) (id : Tree) (item : Item) (row : Option Version) (o : Moved) → Made k low high H H' item → HasFirst stand row new → GoesReady many item new o → Steps k low high (Retrying many stand id) H H' o
 again_steps k low high H H' many stand new id item row o made has ready = on_steps k low high H H' (Retrying many stand id) many item new o refl made (first_less stand new row has) ready
+
+-- ---- errors
+
+pub ended_steps : (k low high : ℕ) (H H' : List Entry) (w : State) (doing : declared_doing.Doing) (stand : Stand) (o told : Moved) → Steps k low high w H H' o → EndsAfter doing stand o told → Steps k low high w H H' told
+ended_steps k low high H H' w doing stand (m.Goes i w') told steps t = subst (Steps k low high w H H') (sym t) steps
+ended_steps k low high H H' w doing stand (m.Ends i r) (m.Goes j w') steps t = absurd t
+ended_steps k low high H H' w doing stand (m.Ends i r) (m.Ends j r') steps t = subst (Made k low high H H') (sym t.0) steps
+ended_steps k low high H H' w doing stand (m.Ends i r) m.NoMemory steps t = absurd t
+ended_steps k low high H H' w doing stand m.NoMemory told steps t = subst (Steps k low high w H H') (sym t) steps

@@ -35,3 +35,5 @@ mod Following
 mod Leavings
 mod Pagings
 mod Trials
+mod Retrials
+mod Fewness
