@@ -29,3 +29,11 @@ mod Client
 mod Deletions
 mod Settling
 mod Goings
+mod Waiting
+mod Apart
+mod Following
+mod Leavings
+mod Pagings
+mod Trials
+mod Retrials
+mod Fewness
