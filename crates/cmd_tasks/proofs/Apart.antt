@@ -62,11 +62,11 @@ at_drop : {A : Type 0} (m : ℕ) (xs : List A) (y : A) (ys : List A) → drop m 
 at_drop zero [] y ys e = cc
 at_drop zero (x ∷ xs) y ys e = (first_is x xs e, rest_is x xs e)
   where
-    first_is : {B : Type 0} {b : B} {bs : List B} (a : B) (as : List B) → a ∷ as ≡ b ∷ bs → Some a ≡ Some b
-    first_is a as q = cc
+    first_is : {B : Type 0} {b : B} {bs : List B} (a : B) (more : List B) → a ∷ more ≡ b ∷ bs → Some a ≡ Some b
+    first_is a more q = cc
 
-    rest_is : {B : Type 0} {b : B} {bs : List B} (a : B) (as : List B) → a ∷ as ≡ b ∷ bs → as ≡ bs
-    rest_is a as q = cc
+    rest_is : {B : Type 0} {b : B} {bs : List B} (a : B) (more : List B) → a ∷ more ≡ b ∷ bs → more ≡ bs
+    rest_is a more q = cc
 at_drop (suc m) [] y ys e = cc
 at_drop (suc m) (x ∷ xs) y ys e = at_drop m xs y ys e
 
