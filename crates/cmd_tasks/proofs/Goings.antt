@@ -1,5 +1,5 @@
 -- How a command that takes many documents goes on from what is taken next, and what its reply tells.
-use Rattle.std.proofs.Common.{◌≡◌, ◌≢◌, ◌⊎◌, ℕ, ℤ, ◌+◌, ◌*◌, ◌<◌, ◌≤◌, List, [], ◌∷◌, map, reverse, length, Bool, true, false, Option, Some, None, Result, Ok, Err, refl, sym, ap, ◌∙◌, subst, arith, inl, inr, ⊎_elim}
+use Rattle.std.proofs.Common.{◌≡◌, ◌≢◌, ◌⊎◌, ℕ, ℤ, ◌<◌, ◌≤◌, List, [], ◌∷◌, map, reverse, length, Bool, true, false, Option, Some, None, Result, Ok, Err, refl, sym, ap, ◌∙◌, subst, arith, inl, inr, ⊎_elim}
 use Rattle.std.specs.Prelude.{nat_lt, if◌then◌else◌, IfOk, IfErr}
 use Rattle.std.proofs.lemmas.Bool.{lt-ltb, le-ltb}
 use Rattle.std.proofs.lemmas.List.{length-map, length-reverse}
@@ -24,8 +24,8 @@ use Rattle.cmd_tasks.specs.Looking.{Refuses}
 use Rattle.cmd_tasks.specs.Doing.{Doing, updates, deletes, update_to, change_of}
 use Rattle.cmd_tasks.specs.Taking.{Shown, Standing, Turn, looks_on, is_done, is_refused, take_with, turn, turn_of, turn_on}
 use Rattle.cmd_tasks.specs.Turns.{so_far_of, state_behind, done_reply, Ends}
-use Rattle.cmd_tasks.specs.Many.{doing_of, IsMany, IsStand, IsStanding, IsAttempted, pages_left, stand_left, tries_left}
-use Rattle.cmd_tasks.specs.Going.{Settles, SettlesReady, IsRefused, tally, GoesOnFrom, GoesReady, RefusesAfter, waiting_left, unsettled_left}
+use Rattle.cmd_tasks.specs.Many.{doing_of, IsMany, IsStand, IsStanding}
+use Rattle.cmd_tasks.specs.Going.{Settles, SettlesReady, IsRefused, tally, GoesOnFrom, GoesReady, RefusesAfter, unsettled_left}
 use Rattle.cmd_tasks.specs.declared.work.Many as declared_many
 use Rattle.cmd_tasks.specs.declared.work.Stand.{Stand}
 use Rattle.cmd_tasks.specs.declared.work.Attempt.{Attempt}

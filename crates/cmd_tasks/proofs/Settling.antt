@@ -1,5 +1,5 @@
 -- What waits is settled: documents that would stay as they are are counted, up to the first that wouldn't.
-use Rattle.std.proofs.Common.{◌≡◌, ℕ, ◌+◌, ◌*◌, ◌<◌, ◌≤◌, List, [], ◌∷◌, ◌++◌, map, reverse, length, Bool, true, false, Option, Some, None, Result, Ok, Err, refl, sym, ap, ◌∙◌, subst, arith, inl, inr, ⊎_elim, length-append, Vec, Global}
+use Rattle.std.proofs.Common.{◌≡◌, ℕ, ◌+◌, ◌*◌, ◌<◌, ◌≤◌, List, [], ◌∷◌, ◌++◌, map, reverse, length, Bool, true, false, Some, None, Ok, Err, refl, sym, ap, ◌∙◌, subst, arith, inl, inr, ⊎_elim, length-append, Vec, Global}
 use Rattle.std.specs.Prelude.{◌&&◌, nat_lt, if◌then◌else◌}
 use Rattle.std.proofs.lemmas.Bool.{lt-ltb, le-ltb, and_from, and_left, and_right}
 use Rattle.std.proofs.lemmas.List.{reverse-append}
@@ -19,7 +19,6 @@ use Rattle.cmd_tasks.specs.Going.{IsCounted, Meets, Settles, SettlesReady, waiti
 use Rattle.cmd_tasks.specs.declared.work.Stand.{Stand}
 use Rattle.cmd_tasks.specs.declared.work.Attempt.{Attempt}
 use Rattle.cmd_tasks.specs.declared.taking.Met.TheVariants as met
-use Rattle.cmd_tasks.specs.declared.taking.Settled.{Settled}
 use Rattle.cmd_tasks.specs.declared.taking.Settled.TheVariants as s
 
 -- ---- the first that waits
