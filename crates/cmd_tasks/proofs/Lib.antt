@@ -13,11 +13,13 @@ mod Searching
 mod Requests
 mod Selecting
 mod Beginnings
+mod Accepted
 mod Standing
 mod Running
 mod Opening
 pub mod Attempts
 pub mod Lookback
+mod Fitting
 pub mod Rounds
 pub mod Tries
 pub mod Contests
@@ -27,3 +29,11 @@ mod Client
 mod Deletions
 mod Settling
 mod Goings
+mod Waiting
+mod Apart
+mod Following
+mod Leavings
+mod Pagings
+mod Trials
+mod Retrials
+mod Fewness
