@@ -74,6 +74,9 @@ first_stand stand left v h is = record {
   lost = h.lost;
 }
 
+fewer_wait : (stand : Stand) (left : Vec Version Global) (v : Version) → IsStand stand → stand.queue.items ≡ left.items ++ v ∷ [] → length left.items < 64
+fewer_wait stand left v h is = let e = ap length is in let m = length-append left.items (v ∷ []) in let w = h.waiting in omega arith
+
 -- ---- one more is counted
 
 pub counted_stands : (stand new : Stand) (id : Tree) (changed : ℕ) (st : Standing) (t : Shown) (rest : List Shown) → t.x.id ≡ id → IsStanding stand st rest → IsCounted stand id changed new → IsStanding new (count t.x changed rest st) rest
@@ -253,7 +256,7 @@ module _ (doing : Doing) (begun stand : Stand) (h : Settling doing begun stand) 
     }
 
     pub takes_ready : (attempt : Attempt) → stand.matched < 20 → Meets doing v (met.Changed attempt) → SettlesReady begun (s.Taken (without_first stand left) attempt)
-    takes_ready attempt few meets = (first_stand stand left v h.ready is, few, meets.3, (let a = takes_left stand left v is in let b = h.left in omega arith))
+    takes_ready attempt few meets = (first_stand stand left v h.ready is, few, meets.3, fewer_wait stand left v h.ready is, (let a = takes_left stand left v is in let b = h.left in omega arith))
 
   -- nothing waits, or as many are counted as may be
   pub ends_empty : (left : Vec Version Global) → stand.queue.items ≡ [] → left.items ≡ [] → (st : Standing) → IsStanding begun st st.queue → st.again ≡ false → Settles doing (settle doing st) (s.Untaken (without_first stand left))
