@@ -1,5 +1,5 @@
 -- A command that takes many documents looks again at the one on which its attempt was lost.
-use Rattle.std.proofs.Common.{◌≡◌, ℕ, ℤ, ◌+◌, ◌<◌, ◌≤◌, List, [], ◌∷◌, ◌++◌, map, take, reverse, length, Bool, true, false, Option, Some, None, refl, sym, ap, ◌∙◌, subst, arith, inr, ⊎_elim, ◌⊎◌}
+use Rattle.std.proofs.Common.{◌≡◌, ℕ, ℤ, ◌<◌, List, [], ◌∷◌, ◌++◌, map, reverse, length, Bool, true, false, Option, Some, None, refl, sym, ap, ◌∙◌, subst, arith, inr, ⊎_elim, ◌⊎◌}
 use Rattle.std.specs.Prelude.{IfSome, if◌then◌else◌}
 use Rattle.std.proofs.lemmas.List.{reverse-append, length-reverse}
 use Rattle.json_tree.specs.Tree.{Tree}
@@ -27,7 +27,7 @@ use Rattle.cmd_tasks.specs.Turns.{IsWrite, MarksTurn, LooksAlone, IsAlone, Follo
 use Rattle.cmd_tasks.specs.Many.{doing_of, taking, MayPage, IsWaiting, IsStanding, IsRetried}
 use Rattle.cmd_tasks.specs.Going.{GoesOnFrom}
 use Rattle.cmd_tasks.specs.ManySteps.{matching_row, pairs_of, HasFirst, Retakes, EndsAfter, TellsAfter}
-use Rattle.cmd_tasks.specs.Moves.{Steps, IsDoneAt, IsUnderWay, Leads, EndsSo, EndsMarked, stands_at}
+use Rattle.cmd_tasks.specs.Moves.{Steps, IsUnderWay, Leads, EndsSo, EndsMarked, stands_at}
 use Rattle.cmd_tasks.specs.declared.work.Many.{Many}
 use Rattle.cmd_tasks.specs.declared.work.Stand.{Stand}
 use Rattle.cmd_tasks.specs.declared.work.State.TheVariants.{Retrying}
