@@ -81,10 +81,13 @@ none_of (x ∷ xs) e = absurd (omega arith)
 -- the command is done, with no more that match or with some
 ends_with : (many : declared_many.Many) (item : Item) (stand : Stand) (st : Standing) (more : Bool) (reply : Reply) → turn (doing_of many.doing) st ≡ is_done more → IsStanding stand st st.queue
     → (reply ≡ done_reply (doing_of many.doing) many.page.value (tally stand) more) ⊎ (reply ≡ NoMemory stand.modified) → GoesOnFrom many item st (m.Ends item reply)
-ends_with many item stand st more reply is h told = (refl, ⊎_elim
-    (λ (e : reply ≡ done_reply (doing_of many.doing) many.page.value (tally stand) more). inl (subst (λ (z : Turn). Ends (doing_of many.doing) many.page.value st z reply) (sym is) (e ∙ done_same (doing_of many.doing) many.page.value (tally stand) st more h.matched h.modified h.last)))
-    (λ (e : reply ≡ NoMemory stand.modified). inr (e ∙ ap (λ (n : ℕ). NoMemory n) h.modified))
-    told)
+ends_with many item stand st more reply is h told = (
+  refl,
+  ⊎_elim
+      (λ (e : reply ≡ done_reply (doing_of many.doing) many.page.value (tally stand) more). inl (subst (λ (z : Turn). Ends (doing_of many.doing) many.page.value st z reply) (sym is) (e ∙ done_same (doing_of many.doing) many.page.value (tally stand) st more h.matched h.modified h.last)))
+      (λ (e : reply ≡ NoMemory stand.modified). inr (e ∙ ap (λ (n : ℕ). NoMemory n) h.modified))
+      told,
+)
 
 -- some wait, so as many are counted as may be
 pub more_ends : (many : declared_many.Many) (item : Item) (stand : Stand) (reply : Reply) → 0 < length stand.queue.items → ((reply ≡ done_reply (doing_of many.doing) many.page.value (tally stand) true) ⊎ (reply ≡ NoMemory stand.modified))
@@ -122,13 +125,16 @@ TellsRefusals doing stand from reply = (st : Standing) (error : ErrorItem) → s
 
 pub refused_ends : (many : declared_many.Many) (item : Item) (stand : Stand) (fault : UpdateFault) (from reply : Reply) → (fault ≡ faults.NoMemory → from ≡ NoMemory 0) → (fault ≢ faults.NoMemory → Refuses (update_error fault) from)
     → TellsRefusals (doing_of many.doing) stand from reply → ((n : ℕ) → from ≡ NoMemory n → reply ≡ NoMemory stand.modified) → (st : Standing) → Settles (doing_of many.doing) st (s.Refused stand fault) → GoesOnFrom many item st (m.Ends item reply)
-refused_ends many item stand fault from reply cut told tells cuts st h = (refl, ⊎_elim
-    (λ (none : (fault ≡ faults.NoMemory) × (stand.modified ≡ st.modified)). inr (cuts 0 (cut none.0) ∙ ap (λ (n : ℕ). NoMemory n) none.1))
-    (λ (no : IsRefused (doing_of many.doing) stand fault st). ⊎_elim
-    (λ (none : fault ≡ faults.NoMemory). inr (cuts 0 (cut none) ∙ ap (λ (n : ℕ). NoMemory n) no.stands.modified))
-    (λ (some : fault ≢ faults.NoMemory). ⊎_elim
-    (λ (after : IsRefusalAfter (so_far_of (doing_of many.doing) st) (update_error fault) reply). inl (subst (λ (z : Turn). Ends (doing_of many.doing) many.page.value st z reply) (sym (turn_refused (doing_of many.doing) st stand fault no)) after))
-    (λ (none : reply ≡ NoMemory st.modified). inr none)
-    (tells st (update_error fault) no.stands.matched no.stands.modified (told some)))
-    (cases_fault fault))
-    h)
+refused_ends many item stand fault from reply cut told tells cuts st h = (
+  refl,
+  ⊎_elim
+      (λ (none : (fault ≡ faults.NoMemory) × (stand.modified ≡ st.modified)). inr (cuts 0 (cut none.0) ∙ ap (λ (n : ℕ). NoMemory n) none.1))
+      (λ (no : IsRefused (doing_of many.doing) stand fault st). ⊎_elim
+      (λ (none : fault ≡ faults.NoMemory). inr (cuts 0 (cut none) ∙ ap (λ (n : ℕ). NoMemory n) no.stands.modified))
+      (λ (some : fault ≢ faults.NoMemory). ⊎_elim
+      (λ (after : IsRefusalAfter (so_far_of (doing_of many.doing) st) (update_error fault) reply). inl (subst (λ (z : Turn). Ends (doing_of many.doing) many.page.value st z reply) (sym (turn_refused (doing_of many.doing) st stand fault no)) after))
+      (λ (none : reply ≡ NoMemory st.modified). inr none)
+      (tells st (update_error fault) no.stands.matched no.stands.modified (told some)))
+      (cases_fault fault))
+      h,
+)

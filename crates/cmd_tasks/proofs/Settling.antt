@@ -264,13 +264,14 @@ module _ (doing : Doing) (begun stand : Stand) (h : Settling doing begun stand) 
       let r = h.reaches st stands first in
       let empty = none_waits stand.queue.items r.now.queue none r.stands.queue in
       subst (λ (z : Standing). Settles doing z (s.Untaken (without_first stand left))) (sym (stops_empty doing r.now empty) ∙ r.same)
-          (record { from = r.stands.from; is_whole = r.stands.is_whole; queue = ap (λ (l : List Version). map found_row (reverse l)) (still ∙ sym none) ∙ r.stands.queue; lost = r.stands.lost; matched = r.stands.matched; modified = r.stands.modified; last = r.stands.last }, r.first_time, inl empty)
+      (record { from = r.stands.from; is_whole = r.stands.is_whole; queue = ap (λ (l : List Version). map found_row (reverse l)) (still ∙ sym none) ∙ r.stands.queue; lost = r.stands.lost; matched = r.stands.matched; modified = r.stands.modified; last = r.stands.last }, r.first_time, inl empty)
 
   pub empty_ready : (left : Vec Version Global) → stand.queue.items ≡ [] → left.items ≡ [] → SettlesReady begun (s.Untaken (without_first stand left))
   empty_ready left none still =
-      let same : left.items ≡ stand.queue.items = still ∙ sym none in
-      (record { few = h.ready.few; changed = h.ready.changed; waiting = (let e = ap length same in let w = h.ready.waiting in omega arith); short = subst AreShort (sym same) h.ready.short; lost = h.ready.lost },
-      (let e = ap (λ (l : List Version). waiting_left l (tries_left stand)) same in let b = h.left in omega arith))
+      let same : left.items ≡ stand.queue.items = still ∙ sym none in (
+        record { few = h.ready.few; changed = h.ready.changed; waiting = (let e = ap length same in let w = h.ready.waiting in omega arith); short = subst AreShort (sym same) h.ready.short; lost = h.ready.lost },
+        (let e = ap (λ (l : List Version). waiting_left l (tries_left stand)) same in let b = h.left in omega arith),
+      )
 
   pub ends_full : 20 ≤ stand.matched → (st : Standing) → IsStanding begun st st.queue → st.again ≡ false → Settles doing (settle doing st) (s.Untaken stand)
   ends_full full st stands first =
