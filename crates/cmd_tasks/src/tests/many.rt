@@ -3,10 +3,12 @@ ghost use Rattle.std.specs.Prelude.{◌≡◌, ◌≢◌, ◌<◌, ◌++◌, Lis
 ghost use Rattle.store_core.specs.Counts.{opened_in, AllBy};
 ghost use Rattle.store_core.specs.Store.{SameBase};
 ghost use Rattle.store_core.specs.declared.entry.Entry.{Entry as Journaled};
+ghost use Rattle.cmd_grammar.specs.Commands.{command_tree, IsAskable};
 ghost use Rattle.cmd_tasks.specs.Stands.{StandsOn};
 
-use super::{command_of, items_of, opened, served, text_of};
+use super::{command_of, items_of, opened, run, text_of};
 use crate::task::{Next, Served, Task};
+use cmd_grammar::Command;
 use doc_paths::CollName;
 use keeper_mem::MemKeeper;
 use std::alloc::Global;
@@ -130,14 +132,6 @@ const SCENES: [Scene; 13] = [
     },
 ];
 
-// A request is served under a session of its own.
-fn asked(alloc: Global, store: &mut Store<MemKeeper>, body: &str) -> Result<bool, Fail> {
-    let Ok(session) = store.open_session(alloc) else {
-        return Ok(false);
-    };
-    asked_by(alloc, store, session, body)
-}
-
 // A request is served under a session that was opened.
 fn asked_by(
     alloc: Global,
@@ -149,33 +143,41 @@ fn asked_by(
     ensures grown { (more : List Journaled) × (store.new.journal ≡ store.old.journal ++ more) × AllBy session more }
     ensures base { SameBase store.old store.new }
 {
-    let coll = CollName::read(alloc, "c")?;
-    let Some(command) = command_of(alloc, body)? else {
-        return Ok(false);
-    };
-    let _served = served(alloc, store, session, coll, command);
-    Ok(true)
+    Ok(run(alloc, store, session, "c", body)?.is_some())
+}
+
+// The same under a session of its own.
+fn asked(alloc: Global, store: &mut Store<MemKeeper>, body: &str) -> Result<bool, Fail> {
+    match store.open_session(alloc) {
+        Ok(session) => asked_by(alloc, store, session, body),
+        Err(_) => Ok(false),
+    }
 }
 
 // What another session asks behind this step.
+fn body_behind(others: &'static [(usize, &'static str)], step: usize) -> Option<&'static str> {
+    for place in 0..others.len() {
+        if others[place].0 == step {
+            return Some(others[place].1);
+        }
+    }
+    None
+}
+
 fn between(
     alloc: Global,
     store: &mut Store<MemKeeper>,
     other: u64,
-    others: &[(usize, &str)],
-    step: usize,
-) -> Result<(), Fail>
+    body: Option<&str>,
+) -> Result<bool, Fail>
     requires known { other < opened_in store.old.journal }
     ensures grown { (more : List Journaled) × (store.new.journal ≡ store.old.journal ++ more) × AllBy other more }
     ensures base { SameBase store.old store.new }
 {
-    for place in 0..others.len() {
-        if others[place].0 == step {
-            asked_by(alloc, store, other, others[place].1)?;
-            return Ok(());
-        }
+    match body {
+        Some(body) => asked_by(alloc, store, other, body),
+        None => Ok(false),
     }
-    Ok(())
 }
 
 // The steps of a task, between which another session asks.
@@ -184,7 +186,7 @@ fn stepped(
     store: &mut Store<MemKeeper>,
     task: Task,
     other: u64,
-    others: &[(usize, &str)],
+    others: &'static [(usize, &'static str)],
 ) -> Result<Option<Served>, Fail>
     requires known { (task.session < opened_in store.old.journal) × (other < opened_in store.old.journal) }
     requires apart { task.session ≢ other }
@@ -196,12 +198,30 @@ fn stepped(
             Next::More => {}
             Next::Done => return Ok(Some(task.into_served())),
         }
-        between(alloc, store, other, others, step)?;
+        between(alloc, store, other, body_behind(others, step))?;
     }
     Ok(None)
 }
 
-// The task of a body, stepped by a session that was opened.
+// A command, stepped by a session that was opened.
+fn tried(
+    alloc: Global,
+    store: &mut Store<MemKeeper>,
+    session: u64,
+    command: Command,
+    coll: CollName,
+    other: u64,
+    others: &'static [(usize, &'static str)],
+) -> Result<Option<Served>, Fail>
+    requires known { (session < opened_in store.old.journal) × (other < opened_in store.old.journal) }
+    requires apart { session ≢ other }
+    requires asked { IsAskable (command_tree command) }
+{
+    let task = Task::new(alloc, session, coll, 0, command);
+    stepped(alloc, store, task, other, others)
+}
+
+// The same with the command that a body spells.
 fn played_by(
     alloc: Global,
     store: &mut Store<MemKeeper>,
@@ -213,11 +233,10 @@ fn played_by(
     requires apart { session ≢ other }
 {
     let coll = CollName::read(alloc, "c")?;
-    let Some(command) = command_of(alloc, scene.body)? else {
-        return Ok(None);
-    };
-    let task = Task::new(alloc, session, coll, 0, command);
-    stepped(alloc, store, task, other, scene.others)
+    match command_of(alloc, scene.body)? {
+        Some(command) => tried(alloc, store, session, command, coll, other, scene.others),
+        None => Ok(None),
+    }
 }
 
 // A scene by two sessions that are opened for it.
