@@ -26,13 +26,13 @@ use Rattle.cmd_tasks.proofs.Stepping.{alone_is, IsPaged, IsRelooked, IsWritten, 
 
 -- ---- lists
 
-pub one_more : {A : Type 0} (a b : A) (as : List A) → IsOneOf a as → IsOneOf a (b ∷ as)
-one_more a b as h = (suc h.0, h.1)
+pub one_more : {A : Type 0} (x y : A) (xs : List A) → IsOneOf x xs → IsOneOf x (y ∷ xs)
+one_more x y xs h = (suc h.0, h.1)
 
-last_snoc : {A : Type 0} (as : List A) (a : A) → last_of (as ++ a ∷ []) ≡ Some a
+last_snoc : {A : Type 0} (xs : List A) (a : A) → last_of (xs ++ a ∷ []) ≡ Some a
 last_snoc [] a = refl
 last_snoc (x ∷ []) a = refl
-last_snoc (x ∷ y ∷ as) a = last_snoc (y ∷ as) a
+last_snoc (x ∷ y ∷ xs) a = last_snoc (y ∷ xs) a
 
 -- one of a list is the next that is taken
 snoc_is : (xs : List Shown) (taken : List Taken) (t : Taken) (waiting rest : List Shown) → xs ≡ map (λ z. z.shown) taken ++ waiting → waiting ≡ t.shown ∷ rest → xs ≡ map (λ z. z.shown) (taken ++ t ∷ []) ++ rest
@@ -123,7 +123,7 @@ module _ (base : State) (coll : Name) (k : ℕ) (f : FilterTree) (doing : Doing)
 
   -- the first of the queue's is taken
   module _ (sights : List Sight) (st : Standing) (t : IsTallied sights st) (q : Shown) (rest : List Shown) (queue : st.queue ≡ q ∷ rest) where
-    first : (w : Shown) × (t.waiting ≡ w ∷ rest) × StandsFor sights w q × (st.again ≡ true → IsTouched base coll k f sights w)
+    pub first : (w : Shown) × (t.waiting ≡ w ∷ rest) × StandsFor sights w q × (st.again ≡ true → IsTouched base coll k f sights w)
     first = subst (λ qs. Waits sights st.again qs t.waiting) queue t.waits
 
     abbrev pub w : Shown
