@@ -1,8 +1,8 @@
 -- What the next sight makes of a command that takes many documents, by cases on its turn.
-use Rattle.std.proofs.Common.{◌≡◌, ℕ, ◌<◌, List, [], ◌∷◌, ◌++◌, map, length, Bool, true, false, cond, Option, Some, None, Result, Ok, Err, refl, sym, ap, ◌∙◌, subst, ⊎_elim, ◌⊎◌, inl, inr, Less, Equal, Greater, Ordering}
-use Rattle.std.specs.Prelude.{◌&&◌, IfSome, nat_lt, is_none, if◌then◌else◌}
+use Rattle.std.proofs.Common.{◌≡◌, ℕ, List, [], ◌∷◌, map, length, Bool, true, false, cond, Option, Some, None, Result, Ok, Err, refl, sym, ap, ◌∙◌, subst, ⊎_elim, ◌⊎◌, inl, inr}
+use Rattle.std.specs.Prelude.{◌&&◌, nat_lt, if◌then◌else◌}
 use Rattle.std.specs.List.{filter}
-use Rattle.std.specs.Ordering.{is_lt, is_le, ordering_reverse}
+use Rattle.std.specs.Ordering.{is_lt}
 use Rattle.json_tree.specs.Tree.{Tree}
 use Rattle.json_tree.specs.Id.{id_cmp}
 use Rattle.shred_cols.specs.Row.{Version}
@@ -17,7 +17,7 @@ use Rattle.store_core.specs.declared.entry.Change.{Change}
 use Rattle.cmd_tasks.specs.Trace.{Sight, Found, found, up_to, now, rows_now, found_in, seen_by, shown_by, Looks}
 use Rattle.cmd_tasks.specs.Attempts.{IsWon, IsLost}
 use Rattle.cmd_tasks.specs.Doing.{Doing, change_of}
-use Rattle.cmd_tasks.specs.Taking.{Shown, Standing, settle, win, lose, matching, shown_alone, list_on, replace, with_look, with_item, look_again, Turn, looks_on, looks_again, attempts, is_done, take_with, turn_again, turn_on, turn_of, turn}
+use Rattle.cmd_tasks.specs.Taking.{Shown, Standing, settle, win, lose, matching, shown_alone, list_on, replace, with_look, with_item, look_again, Turn, looks_on, looks_again, attempts, is_done, gives_up, take_with, turn_again, turn_on, turn_of, turn}
 use Rattle.cmd_tasks.specs.Turns.{LooksAlone, IsPage, IsAlone, Follows}
 use Rattle.cmd_tasks.specs.Served.{one_if_wrote}
 use Rattle.cmd_tasks.specs.declared.trace.Item.{Item}
@@ -37,7 +37,7 @@ has_none id other m = go (is_lt (id_cmp id other)) refl
     go false e = ap (λ t. t && (up_to (Some id) other && m)) e
     go true e = ap (λ t. is_after (Some id) other && (t && m)) (lt_not_le (id_cmp id other) (id_cmp other id) (ids_total.antisymm other id) e) ∙ and_false (is_after (Some id) other)
 
-alone_shows_none : (f : FilterTree) (id : Tree) (r : Rows) → ◌≡◌ {A = List Found} (found_in r f (Some id) (Some id)) []
+pub alone_shows_none : (f : FilterTree) (id : Tree) (r : Rows) → ◌≡◌ {A = List Found} (found_in r f (Some id) (Some id)) []
 alone_shows_none f id [] = refl
 alone_shows_none f id (e ∷ r) =
     let rest = filter (λ z. is_after (Some id) z.0 && (up_to (Some id) z.0 && matches f z.1.doc)) r in
@@ -179,7 +179,7 @@ module _ (base : State) (coll : Name) (k : ℕ) (f : FilterTree) (doing : Doing)
         by_queue first_time (first ∷ rest) queue h = by_count first_time first rest queue (nat_lt st.matched 20) refl h
 
         by_losses : st.again ≡ true → (first : Shown) (rest : List Shown) → st.queue ≡ first ∷ rest → (b : Bool)
-            → Follows base coll k f (if b then looks_again first.x.id else Rattle.cmd_tasks.specs.Taking.gives_up) s → Steps s st new
+            → Follows base coll k f (if b then looks_again first.x.id else gives_up) s → Steps s st new
         by_losses again first rest queue true h = relooks again first rest queue h
         by_losses again first rest queue false h = absurd h
 

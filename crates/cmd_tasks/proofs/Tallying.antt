@@ -1,8 +1,8 @@
 -- Of each document that a page showed: it was counted, or passed over, or waits in the queue.
-use Rattle.std.proofs.Common.{◌≡◌, ◌≢◌, ℕ, zero, suc, ◌+◌, ◌<◌, ◌≤◌, List, [], ◌∷◌, ◌++◌, map, drop, length, Bool, true, false, cond, Option, Some, None, Result, Ok, Err, refl, sym, ap, ◌∙◌, subst, arith, ⊎_elim, ◌⊎◌, inl, inr, length-append}
-use Rattle.std.specs.Prelude.{◌&&◌, nat_lt, is_none, if◌then◌else◌}
+use Rattle.std.proofs.Common.{◌≡◌, ℕ, zero, suc, ◌+◌, ◌≤◌, List, [], ◌∷◌, ◌++◌, map, length, Bool, true, false, cond, Option, Some, None, Result, Ok, Err, refl, sym, ap, ◌∙◌, subst, arith, ⊎_elim, ◌⊎◌, inl, inr, length-append}
+use Rattle.std.specs.Prelude.{◌&&◌, nat_lt, ⊤, if◌then◌else◌}
 use Rattle.std.specs.Option.{option_map}
-use Rattle.std.specs.List.{filter, list_any, AllByRecursion as Each}
+use Rattle.std.specs.List.{AllByRecursion as Each}
 use Rattle.std.proofs.lemmas.Bool.{ltb-true}
 use Rattle.std.proofs.lemmas.List.{append_assoc, append-nil, map-append}
 use Rattle.std.proofs.lemmas.List.Elements.{filter-append}
@@ -13,14 +13,13 @@ use Rattle.update_ops.specs.declared.fault.UpdateFault.{UpdateFault}
 use Rattle.store_core.specs.State.{State, version}
 use Rattle.store_core.specs.declared.entry.Change.{Change}
 use Rattle.cmd_tasks.specs.Trace.{Sight, Found, now, shown_by}
-use Rattle.cmd_tasks.specs.Attempts.{IsOneOf, comes_between}
+use Rattle.cmd_tasks.specs.Attempts.{IsOneOf}
 use Rattle.cmd_tasks.specs.Pages.{last_of}
 use Rattle.cmd_tasks.specs.Doing.{Doing, change_of}
-use Rattle.cmd_tasks.specs.Taking.{Shown, Standing, at_start, count, is_unchanged, settled, settle, shown_with, win, lose, shown_alone, list_on, replace, standing, turn}
-use Rattle.cmd_tasks.specs.Turns.{IsAlone, Follows}
-use Rattle.cmd_tasks.specs.Served.{accepted, one_if_wrote}
-use Rattle.cmd_tasks.specs.Tally.{Fate, changed, unchanged, passed, is_counted, is_changed, Taken, counted_of, changed_of, IsTouched, ShowsAlone, IsVersion, IsChanged, IsUnchanged, IsPassed, Meets, listed}
-use Rattle.cmd_tasks.proofs.Covering.{each_weaker}
+use Rattle.cmd_tasks.specs.Taking.{Shown, Standing, count, is_unchanged, settled, settle, shown_with, win, lose, shown_alone, list_on, replace, standing, turn}
+use Rattle.cmd_tasks.specs.Turns.{Follows}
+use Rattle.cmd_tasks.specs.Tally.{Fate, changed, unchanged, passed, is_counted, is_changed, Taken, counted_of, changed_of, IsTouched, ShowsAlone, IsVersion, Meets, listed}
+use Rattle.cmd_tasks.proofs.Covering.{and_parts, each_weaker}
 use Rattle.cmd_tasks.proofs.Ascent.{each_append}
 use Rattle.cmd_tasks.proofs.Stepping.{alone_is, IsPaged, IsRelooked, IsWritten, IsBeaten, steps}
 
@@ -40,7 +39,7 @@ snoc_is xs taken t waiting rest all is =
     all ∙ (ap (λ ws. map (λ (z : Taken). z.shown) taken ++ ws) is
     ∙ (sym (append_assoc (map (λ (z : Taken). z.shown) taken) (t.shown ∷ []) rest) ∙ ap (λ ws. ws ++ rest) (sym (map-append (λ (z : Taken). z.shown) taken (t ∷ [])))))
 
-abbrev last_id : List Taken → Option Tree
+abbrev pub last_id : List Taken → Option Tree
 last_id taken = option_map (λ t. t.shown.x.id) (last_of (counted_of taken))
 
 module _ (base : State) (coll : Name) (k : ℕ) (f : FilterTree) (doing : Doing) where
@@ -63,7 +62,7 @@ module _ (base : State) (coll : Name) (k : ℕ) (f : FilterTree) (doing : Doing)
   -- ---- what waits
 
   -- it stands in the queue for a document that a page showed: as that page showed it, or as a look at it alone did
-  abbrev StandsFor : List Sight → Shown → Shown → Type 0
+  abbrev pub StandsFor : List Sight → Shown → Shown → Type 0
   StandsFor sights w q = (q ≡ w) ⊎ ((q.x.id ≡ w.x.id) × IsTouched base coll k f sights w × ShowsAlone base coll k f sights q.x.id (q.x ∷ []))
 
   version_of_first : (sights : List Sight) (w q : Shown) → StandsFor sights w q → IsVersion base coll k f sights w q.x
@@ -73,7 +72,7 @@ module _ (base : State) (coll : Name) (k : ℕ) (f : FilterTree) (doing : Doing)
   same_id sights w q h = ⊎_elim (λ (e : q ≡ w). ap (λ z. z.x.id) e) (λ other. other.0) h
 
   -- the queue stands for what waits; another session touched the first of it, if an attempt was lost
-  abbrev Waits : List Sight → Bool → List Shown → List Shown → Type 0
+  abbrev pub Waits : List Sight → Bool → List Shown → List Shown → Type 0
   Waits sights again [] waiting = waiting ≡ []
   Waits sights again (q ∷ rest) waiting = (w : Shown) × (waiting ≡ w ∷ rest) × StandsFor sights w q × (again ≡ true → IsTouched base coll k f sights w)
 
@@ -108,7 +107,7 @@ module _ (base : State) (coll : Name) (k : ℕ) (f : FilterTree) (doing : Doing)
     pub few : st.matched ≤ 20
 
   -- a sight that shows no page
-  tallied_more : (s : Sight) (sights : List Sight) (st : Standing) → ◌≡◌ {A = List Found} (shown_by base coll f s) [] → IsTallied sights st → IsTallied (s ∷ sights) st
+  pub tallied_more : (s : Sight) (sights : List Sight) (st : Standing) → ◌≡◌ {A = List Found} (shown_by base coll f s) [] → IsTallied sights st → IsTallied (s ∷ sights) st
   tallied_more s sights st none t = record {
     taken = t.taken;
     waiting = t.waiting;
@@ -227,10 +226,6 @@ module _ (base : State) (coll : Name) (k : ℕ) (f : FilterTree) (doing : Doing)
 
   -- ---- documents that need no write
 
-  and_both : (a b : Bool) → a && b ≡ true → (a ≡ true) × (b ≡ true)
-  and_both true b e = (refl, e)
-  and_both false b e = cc
-
   needs_none : (r : Result (Option Change) UpdateFault) → is_unchanged r ≡ true → r ≡ Ok None
   needs_none (Ok None) e = refl
   needs_none (Ok (Some change)) e = cc
@@ -242,7 +237,7 @@ module _ (base : State) (coll : Name) (k : ℕ) (f : FilterTree) (doing : Doing)
       elim (nat_lt st.matched 20 && is_unchanged (change_of doing q.x.doc)) as (λ b. nat_lt st.matched 20 && is_unchanged (change_of doing q.x.doc) ≡ b
           → IsTallied sights (if b then settled doing rest (count q.x 0 rest st) else record st { queue = q ∷ rest })) [
         | true ↦ λ e.
-            let both = and_both _ _ e in
+            let both = and_parts _ _ e in
             settled_tallied sights rest (count q.x 0 rest st) refl again
             (tallied_unchanged sights st t q rest is (count q.x 0 rest st) again refl refl (omega arith) refl both.0 (q.x, is_version sights st t q rest is, needs_none (change_of doing q.x.doc) both.1))
         | false ↦ λ e. subst (λ qs. IsTallied sights (record st { queue = qs })) is t
@@ -326,7 +321,7 @@ module _ (base : State) (coll : Name) (k : ℕ) (f : FilterTree) (doing : Doing)
   module _ (from : Option Tree) where
     -- the sights so far follow one another
     abbrev pub AreSteps : List Sight → Type 0
-    AreSteps [] = Rattle.std.specs.Prelude.⊤
+    AreSteps [] = ⊤
     AreSteps (s ∷ earlier) = AreSteps earlier × Follows base coll k f (turn doing (standing base coll f doing from earlier)) s
 
     -- each document that a page showed is counted, or passed over, or waits
