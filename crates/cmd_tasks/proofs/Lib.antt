@@ -25,3 +25,7 @@ mod Ascent
 mod Covering
 mod Client
 mod Deletions
+mod Stepping
+mod Tallying
+mod Reaching
+mod Telling

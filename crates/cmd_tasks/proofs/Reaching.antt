@@ -17,7 +17,7 @@ use Rattle.cmd_tasks.specs.Attempts.{IsOneOf}
 use Rattle.cmd_tasks.specs.Joined.{Rise, Matches}
 use Rattle.cmd_tasks.specs.Doing.{Doing, change_of}
 use Rattle.cmd_tasks.specs.Taking.{Shown, Standing, count, is_unchanged, settled, settle, shown_with, win, shown_alone, list_on, replace, standing}
-use Rattle.cmd_tasks.specs.Tally.{comes_by, listed, IsListed}
+use Rattle.cmd_tasks.specs.Tally.{comes_by, listed, CameBy}
 use Rattle.cmd_tasks.specs.declared.trace.Item.{Item}
 use Rattle.cmd_tasks.specs.declared.trace.Item.TheVariants.{Looked, Wrote, Lost, Faulted}
 use Rattle.cmd_tasks.proofs.Ascent.{each_append}
@@ -79,8 +79,8 @@ module _ (base : State) (coll : Name) (k : ℕ) (f : FilterTree) (doing : Doing)
   settled_listing [] st = (refl, refl)
   settled_listing (q ∷ rest) st =
       elim (nat_lt st.matched 20 && is_unchanged (change_of doing q.x.doc)) as (λ b.
-          ((if b then settled doing rest (count q.x 0 rest st) else record st { queue = q ∷ rest }).from ≡ st.from)
-          × ((if b then settled doing rest (count q.x 0 rest st) else record st { queue = q ∷ rest }).is_whole ≡ st.is_whole)) [
+      ((if b then settled doing rest (count q.x 0 rest st) else record st { queue = q ∷ rest }).from ≡ st.from)
+      × ((if b then settled doing rest (count q.x 0 rest st) else record st { queue = q ∷ rest }).is_whole ≡ st.is_whole)) [
         | true ↦ settled_listing rest (count q.x 0 rest st)
         | false ↦ (refl, refl)
       ]
@@ -94,7 +94,7 @@ module _ (base : State) (coll : Name) (k : ℕ) (f : FilterTree) (doing : Doing)
   shows_more : (s : Sight) (earlier : List Sight) → shows (s ∷ earlier) ≡ shows earlier ++ shown_by base coll f s
   shows_more s earlier = map-append (λ (z : Shown). z.x) (listed base coll f earlier) (shown_with s (shown_by base coll f s)) ∙ ap (λ xs. shows earlier ++ xs) (found_are s (shown_by base coll f s))
 
-  listed_more : (s : Sight) (earlier : List Sight) (id : Tree) → IsListed base coll f earlier id → IsListed base coll f (s ∷ earlier) id
+  listed_more : (s : Sight) (earlier : List Sight) (id : Tree) → CameBy base coll f earlier id → CameBy base coll f (s ∷ earlier) id
   listed_more s earlier id h =
       (h.0, one_more h.0 s earlier h.1, h.2, λ v m. one_left _ (listed base coll f earlier) (shown_with s (shown_by base coll f s)) (h.3 v m))
 
@@ -102,7 +102,7 @@ module _ (base : State) (coll : Name) (k : ℕ) (f : FilterTree) (doing : Doing)
     pub record IsReached (sights : List Sight) (st : Standing) : Type 0 where
       pub rise : Rise (shows sights)
       pub behind : st.is_whole ≡ false → (y : Tree) → is_after st.from y ≡ true → (is_after from y ≡ true) × IsPast y (shows sights)
-      pub reach : (id : Tree) → is_after from id ≡ true → IsListed base coll f sights id ⊎ ((st.is_whole ≡ false) × (is_after st.from id ≡ true))
+      pub reach : (id : Tree) → is_after from id ≡ true → CameBy base coll f sights id ⊎ ((st.is_whole ≡ false) × (is_after st.from id ≡ true))
 
     -- a sight that is no page
     pub still : (s : Sight) (earlier : List Sight) (st new : Standing) → ◌≡◌ {A = List Found} (shown_by base coll f s) [] → new.from ≡ st.from → new.is_whole ≡ st.is_whole → IsReached earlier st → IsReached (s ∷ earlier) new
@@ -112,7 +112,7 @@ module _ (base : State) (coll : Name) (k : ℕ) (f : FilterTree) (doing : Doing)
           rise = subst Rise (sym same) r.rise;
           behind = λ un y h. let b = r.behind (sym whole_is ∙ un) y (subst (λ o. is_after o y ≡ true) from_is h) in (b.0, subst (IsPast y) (sym same) b.1);
           reach = λ id h. ⊎_elim
-              (λ (z : IsListed base coll f earlier id). inl (listed_more s earlier id z))
+              (λ (z : CameBy base coll f earlier id). inl (listed_more s earlier id z))
               (λ (z : (st.is_whole ≡ false) × (is_after st.from id ≡ true)). inr (whole_is ∙ z.0, subst (λ o. is_after o id ≡ true) (sym from_is) z.1))
               (r.reach id h);
         }
@@ -129,7 +129,7 @@ module _ (base : State) (coll : Name) (k : ℕ) (f : FilterTree) (doing : Doing)
               let more = r.behind p.unended y back.0 in
               (more.0, subst (IsPast y) (sym (shows_more s earlier)) (each_append _ (shows earlier) shown more.1 back.1));
           reach = λ id h. ⊎_elim
-              (λ (z : IsListed base coll f earlier id). inl (listed_more s earlier id z))
+              (λ (z : CameBy base coll f earlier id). inl (listed_more s earlier id z))
               (λ (z : (st.is_whole ≡ false) × (is_after st.from id ≡ true)). ⊎_elim
               (λ (c : comes_by id s.item ≡ true). inl (s, (zero, refl), c, λ v m. one_right _ (listed base coll f earlier) (shown_with s shown) (shown_one s (found (id, v)) shown (shows_there base coll f rows s.item id v c m.0 m.1))))
               (λ (far : (u : Tree) × (end_of s.item ≡ Some u) × (is_after (Some u) id ≡ true)). inr (whole_is ∙ ap is_none far.1, subst (λ o. is_after o id ≡ true) (sym (from_is ∙ far.1)) far.2))

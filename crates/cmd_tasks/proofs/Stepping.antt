@@ -133,22 +133,39 @@ module _ (base : State) (coll : Name) (k : ℕ) (f : FilterTree) (doing : Doing)
     relooks again first rest queue is =
         let facts = alone s.item first.x.id _ is.1 in
         inr (inl (record {
-          again = again; first = first; rest = rest; queue = queue; alone = is;
+          again = again;
+          first = first;
+          rest = rest;
+          queue = queue;
+          alone = is;
           new_is = facts.0 ∙ (ap (λ b. settle doing (with_look base coll f b s st)) again ∙ ap (λ q. settle doing (look_again base coll f s q st)) queue);
-          lists = facts.1; wrote = facts.2;
+          lists = facts.1;
+          wrote = facts.2;
         }))
 
     tries : st.again ≡ false → (first : Shown) (rest : List Shown) → st.queue ≡ first ∷ rest → nat_lt st.matched 20 ≡ true → (change : Change) → change_of doing first.x.doc ≡ Ok (Some change)
         → IsWon base coll k first.x change s ⊎ IsLost base coll k first.look first.x s → Steps s st new
     tries first_time first rest queue few change made h = ⊎_elim
         (λ (won : IsWon base coll k first.x change s). inr (inr (inl (record {
-          first_time = first_time; first = first; rest = rest; queue = queue; few = few; change = change; made = made; won = won;
+          first_time = first_time;
+          first = first;
+          rest = rest;
+          queue = queue;
+          few = few;
+          change = change;
+          made = made;
+          won = won;
           new_is = ap (λ i. with_item base coll f doing i s st) won.wrote.0;
           lists = ap (seen_by base coll f (rows_now base coll s)) won.wrote.0;
           wrote = ap one_if_wrote won.wrote.0;
         }))))
         (λ (lost : IsLost base coll k first.look first.x s). inr (inr (inr (record {
-          first_time = first_time; first = first; rest = rest; queue = queue; lost = lost; loss = record { read = first.x.tx; found = lost.found };
+          first_time = first_time;
+          first = first;
+          rest = rest;
+          queue = queue;
+          lost = lost;
+          loss = record { read = first.x.tx; found = lost.found };
           new_is = ap (λ i. with_item base coll f doing i s st) lost.item;
           lists = ap (seen_by base coll f (rows_now base coll s)) lost.item;
           wrote = ap one_if_wrote lost.item;

@@ -235,7 +235,7 @@ module _ (base : State) (coll : Name) (k : ℕ) (f : FilterTree) (doing : Doing)
   settled_tallied sights [] st is again t = subst (λ qs. IsTallied sights (record st { queue = qs })) is t
   settled_tallied sights (q ∷ rest) st is again t =
       elim (nat_lt st.matched 20 && is_unchanged (change_of doing q.x.doc)) as (λ b. nat_lt st.matched 20 && is_unchanged (change_of doing q.x.doc) ≡ b
-          → IsTallied sights (if b then settled doing rest (count q.x 0 rest st) else record st { queue = q ∷ rest })) [
+      → IsTallied sights (if b then settled doing rest (count q.x 0 rest st) else record st { queue = q ∷ rest })) [
         | true ↦ λ e.
             let both = and_parts _ _ e in
             settled_tallied sights rest (count q.x 0 rest st) refl again

@@ -55,7 +55,7 @@ module _ (base : State) (coll : Name) (k : ℕ) (f : FilterTree) (doing : Doing)
   settled_needs [] st = λ again q rest e few. cc
   settled_needs (p ∷ queue) st =
       elim (nat_lt st.matched 20 && is_unchanged (change_of doing p.x.doc)) as (λ b. nat_lt st.matched 20 && is_unchanged (change_of doing p.x.doc) ≡ b
-          → NeedsWrite (if b then settled doing queue (count p.x 0 queue st) else record st { queue = p ∷ queue })) [
+      → NeedsWrite (if b then settled doing queue (count p.x 0 queue st) else record st { queue = p ∷ queue })) [
         | true ↦ λ e. settled_needs queue (count p.x 0 queue st)
         | false ↦ λ e again q rest is few. ap (λ z. is_unchanged (change_of doing z)) (sym (same_first is)) ∙ (ap (λ b. b && is_unchanged (change_of doing p.x.doc)) (sym few) ∙ e)
       ] refl
@@ -232,10 +232,13 @@ module _ (base : State) (coll : Name) (k : ℕ) (f : FilterTree) (doing : Doing)
     marks_alone s tn after up m w = absurd w
 
     stopped_shows : (s : Sight) (tn : Turn) (error : ErrorItem) (i : Item) → Stops base coll k (MarksTurn tn) (IsWrite tn) i s error → (◌≡◌ {A = List Found} (seen_by base coll f (rows_now base coll s) i) []) × (one_if_wrote i ≡ 0)
-    stopped_shows s tn error (Looked at after up page) h = (⊎_elim
-        (λ spent. marks_alone s tn after up h.0 spent.0)
-        (λ gone. ap (λ o. found_in (elim o as (λ _. Rows) [ None ↦ [] | Some r ↦ r ]) f after up) gone.1)
-        h.2, refl)
+    stopped_shows s tn error (Looked at after up page) h = (
+      ⊎_elim
+          (λ spent. marks_alone s tn after up h.0 spent.0)
+          (λ gone. ap (λ o. found_in (elim o as (λ _. Rows) [ None ↦ [] | Some r ↦ r ]) f after up) gone.1)
+          h.2,
+      refl,
+    )
     stopped_shows s tn error (Wrote at) h = absurd h
     stopped_shows s tn error (Lost at read old) h = absurd h
     stopped_shows s tn error (Faulted at before count) h = (refl, refl)

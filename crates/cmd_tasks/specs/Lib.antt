@@ -19,3 +19,4 @@ pub mod Many
 pub mod Moves
 pub mod Stands
 pub mod Joined
+pub mod Tally

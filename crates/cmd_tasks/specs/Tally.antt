@@ -104,8 +104,8 @@ module _ (base : State) (coll : Name) (f : FilterTree) where
   listed (s ∷ earlier) = listed earlier ++ shown_with s (shown_by base coll f s)
 
   -- a page came by the id, and showed what matched there
-  abbrev pub IsListed : List Sight → Tree → Type 0
-  IsListed sights id = (s : Sight) × IsOneOf s sights × (comes_by id s.item ≡ true) × ((v : Version) → Matches base coll f id v s → IsOneOf (record { x = found (id, v); look = s }) (listed sights))
+  abbrev pub CameBy : List Sight → Tree → Type 0
+  CameBy sights id = (s : Sight) × IsOneOf s sights × (comes_by id s.item ≡ true) × ((v : Version) → Matches base coll f id v s → IsOneOf (record { x = found (id, v); look = s }) (listed sights))
 
 -- ---- what the reply tells
 
@@ -147,8 +147,9 @@ module _ (page : Option PageState) (taken : List Taken) (left : List Shown) wher
   Tells doing (NoMemory n) = n ≡ modified
   Tells doing reply = ⊥
 
--- Each document that a page showed is, in order, counted once, or passed over since another session changed it, or left, and
--- the reply tells of them; none is left where it tells that no more match, and then pages came by each id behind the start
+-- The documents that pages showed, in order of id, so none twice: first those that were taken, each changed, unchanged or passed
+-- over, and then those that are left. The writes of the request are those of the changed ones, and the reply tells how many they
+-- are. The pages came by each id behind the start, unless the reply tells that more may match: then as far as they showed any
 pub record AreTaken (base : State) (coll : Name) (k : ℕ) (f : FilterTree) (doing : Doing) (page : Option PageState) (sights : List Sight) (reply : Reply) : Type 0 where
   pub taken : List Taken
   pub left : List Shown
@@ -158,4 +159,4 @@ pub record AreTaken (base : State) (coll : Name) (k : ℕ) (f : FilterTree) (doi
   pub writes : accepted sights ≡ modified page taken left
   pub tells : Tells page taken left doing reply
   pub whole : (id : Tree) → is_after (option_map (λ p. p.last) page) id ≡ true
-      → IsListed base coll f sights id ⊎ ((TellsAll reply → ⊥) × Each (λ s. is_after (Some s.x.id) id ≡ true) (listed base coll f sights))
+      → CameBy base coll f sights id ⊎ ((TellsAll reply → ⊥) × Each (λ s. is_after (Some s.x.id) id ≡ true) (listed base coll f sights))

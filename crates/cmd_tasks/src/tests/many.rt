@@ -24,16 +24,27 @@ struct Scene {
 }
 
 const A1: &str = r#"{"insertOne":{"document":{"_id":"a","k":1}}}"#;
+
 const B1: &str = r#"{"insertOne":{"document":{"_id":"b","k":1}}}"#;
+
 const C1: &str = r#"{"insertOne":{"document":{"_id":"c","k":1}}}"#;
+
 const D2: &str = r#"{"insertOne":{"document":{"_id":"d","k":2}}}"#;
+
 const TEXT: &str = r#"{"insertOne":{"document":{"_id":"c","k":1,"n":"x"}}}"#;
+
 const A2: &str = r#"{"updateOne":{"filter":{"_id":"a"},"update":{"$set":{"k":2}}}}"#;
+
 const TOUCH: &str = r#"{"updateOne":{"filter":{"_id":"a"},"update":{"$inc":{"z":1}}}}"#;
+
 const B_GONE: &str = r#"{"deleteOne":{"filter":{"_id":"b"}}}"#;
+
 const B_DONE: &str = r#"{"updateOne":{"filter":{"_id":"b"},"update":{"$set":{"n":1}}}}"#;
+
 const DELETE: &str = r#"{"deleteMany":{"filter":{"k":1}}}"#;
+
 const SET: &str = r#"{"updateMany":{"filter":{"k":1},"update":{"$set":{"n":1}}}}"#;
+
 const INC: &str = r#"{"updateMany":{"filter":{"k":1},"update":{"$inc":{"n":1}}}}"#;
 
 const SCENES: [Scene; 13] = [
