@@ -24,8 +24,10 @@ pub mod Contests
 mod Ascent
 mod Covering
 mod Client
-mod Deletions
 mod Stepping
 mod Tallying
 mod Reaching
 mod Telling
+mod Deletions
+mod Settling
+mod Goings

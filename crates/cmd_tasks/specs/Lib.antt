@@ -17,6 +17,7 @@ pub mod Searching
 pub mod Deleting
 pub mod Many
 pub mod Moves
+pub mod Going
 pub mod Stands
 pub mod Joined
 pub mod Tally

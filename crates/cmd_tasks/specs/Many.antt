@@ -110,32 +110,32 @@ module _ (base : Base) (coll : Name) where
     pub passed : AllByRecursion (λ s. is_passed st s.x.id ≡ true) st.queue
     pub written : (id : Tree) → is_written coll id sights ≡ true → (is_passed st id ≡ true) × AllByRecursion (λ s. is_lt (id_cmp id s.x.id) ≡ true) st.queue
 
-  -- the state tells where the command stands, with these still waiting
-  pub record IsStanding (stand : Stand) (st : Standing) (waiting : List Shown) : Type 0 where
-    pub from : stand.from ≡ st.from
-    pub is_whole : stand.is_whole ≡ st.is_whole
-    pub queue : map found_row (reverse stand.queue.items) ≡ map (λ s. s.x) waiting
-    pub lost : reverse stand.lost.items ≡ st.losses
-    pub matched : stand.matched ≡ st.matched
-    pub modified : stand.modified ≡ st.modified
-    pub last : stand.last ≡ st.last
+-- the state tells where the command stands, with these still waiting
+pub record IsStanding (stand : Stand) (st : Standing) (waiting : List Shown) : Type 0 where
+  pub from : stand.from ≡ st.from
+  pub is_whole : stand.is_whole ≡ st.is_whole
+  pub queue : map found_row (reverse stand.queue.items) ≡ map (λ s. s.x) waiting
+  pub lost : reverse stand.lost.items ≡ st.losses
+  pub matched : stand.matched ≡ st.matched
+  pub modified : stand.modified ≡ st.modified
+  pub last : stand.last ≡ st.last
 
-  -- the first one is attempted next, by this change
-  pub record IsAttempted (doing : Doing) (stand : Stand) (attempt : Attempt) (st : Standing) : Type 0 where
-    pub first : Shown
-    pub rest : List Shown
-    pub queue : st.queue ≡ first ∷ rest
-    pub first_time : st.again ≡ false
-    pub id : first.x.id ≡ attempt.id
-    pub read : first.x.tx ≡ attempt.read
-    pub change : change_of doing first.x.doc ≡ Ok (Some attempt.change)
-    pub stands : IsStanding stand st rest
+-- the first one is attempted next, by this change
+pub record IsAttempted (doing : Doing) (stand : Stand) (attempt : Attempt) (st : Standing) : Type 0 where
+  pub first : Shown
+  pub rest : List Shown
+  pub queue : st.queue ≡ first ∷ rest
+  pub first_time : st.again ≡ false
+  pub id : first.x.id ≡ attempt.id
+  pub read : first.x.tx ≡ attempt.read
+  pub change : change_of doing first.x.doc ≡ Ok (Some attempt.change)
+  pub stands : IsStanding stand st rest
 
-  -- the first one is looked at alone next
-  pub record IsRetried (stand : Stand) (id : Tree) (st : Standing) : Type 0 where
-    pub first : Shown
-    pub rest : List Shown
-    pub queue : st.queue ≡ first ∷ rest
-    pub again : st.again ≡ true
-    pub id_is : first.x.id ≡ id
-    pub stands : IsStanding stand st rest
+-- the first one is looked at alone next
+pub record IsRetried (stand : Stand) (id : Tree) (st : Standing) : Type 0 where
+  pub first : Shown
+  pub rest : List Shown
+  pub queue : st.queue ≡ first ∷ rest
+  pub again : st.again ≡ true
+  pub id_is : first.x.id ≡ id
+  pub stands : IsStanding stand st rest
