@@ -2,7 +2,6 @@
 use Rattle.std.proofs.Common.{◌≡◌, ℕ, zero, suc, List, [], ◌∷◌, ◌++◌, map, Bool, true, false, Option, Some, None, refl, sym, ap, ◌∙◌, subst, ⊎_elim, ◌⊎◌, inl, inr}
 use Rattle.std.specs.Prelude.{◌&&◌, IfSome, nat_lt, is_none, if◌then◌else◌}
 use Rattle.std.specs.List.{AllByRecursion as Each}
-use Rattle.std.specs.Ordering.{is_le}
 use Rattle.std.proofs.lemmas.List.{append-nil, map-append}
 use Rattle.json_tree.specs.Tree.{Tree}
 use Rattle.json_tree.specs.Id.{id_cmp}
@@ -14,7 +13,7 @@ use Rattle.filter_tree.specs.Matches.{matches}
 use Rattle.store_core.specs.State.{State}
 use Rattle.cmd_tasks.specs.Trace.{Sight, Found, found, up_to, end_of, rows_now, seen_by, shown_by, Looks, FullPage}
 use Rattle.cmd_tasks.specs.Attempts.{IsOneOf}
-use Rattle.cmd_tasks.specs.Joined.{Rise, Matches}
+use Rattle.cmd_tasks.specs.Joined.{Rise}
 use Rattle.cmd_tasks.specs.Doing.{Doing, change_of}
 use Rattle.cmd_tasks.specs.Taking.{Shown, Standing, count, is_unchanged, settled, settle, shown_with, win, shown_alone, list_on, replace, standing}
 use Rattle.cmd_tasks.specs.Tally.{comes_by, listed, CameBy}
@@ -23,7 +22,7 @@ use Rattle.cmd_tasks.specs.declared.trace.Item.TheVariants.{Looked, Wrote, Lost,
 use Rattle.cmd_tasks.proofs.Ascent.{each_append}
 use Rattle.cmd_tasks.proofs.Covering.{and_parts, beyond, one_left, one_right, each_weaker, IsPast, rise_append, is_found, look_behind, look_rises}
 use Rattle.cmd_tasks.proofs.Listing.{ids_total}
-use Rattle.cmd_tasks.proofs.Stepping.{IsPaged, IsRelooked, IsWritten, IsBeaten, steps}
+use Rattle.cmd_tasks.proofs.Stepping.{IsPaged, IsRelooked, IsWritten, steps}
 use Rattle.cmd_tasks.proofs.Tallying.{one_more, AreSteps}
 
 -- ---- one page

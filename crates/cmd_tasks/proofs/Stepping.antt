@@ -1,5 +1,5 @@
 -- What the next sight makes of a command that takes many documents, by cases on its turn.
-use Rattle.std.proofs.Common.{◌≡◌, ℕ, List, [], ◌∷◌, map, length, Bool, true, false, cond, Option, Some, None, Result, Ok, Err, refl, sym, ap, ◌∙◌, subst, ⊎_elim, ◌⊎◌, inl, inr}
+use Rattle.std.proofs.Common.{◌≡◌, ℕ, List, [], ◌∷◌, map, length, Bool, true, false, cond, Option, Some, None, Result, Ok, Err, refl, sym, ap, ◌∙◌, ⊎_elim, ◌⊎◌, inl, inr}
 use Rattle.std.specs.Prelude.{◌&&◌, nat_lt, if◌then◌else◌}
 use Rattle.std.specs.List.{filter}
 use Rattle.std.specs.Ordering.{is_lt}
@@ -12,12 +12,12 @@ use Rattle.filter_tree.specs.Filters.{FilterTree}
 use Rattle.filter_tree.specs.Matches.{matches}
 use Rattle.update_ops.specs.declared.fault.UpdateFault.{UpdateFault}
 use Rattle.reply_env.specs.declared.update_errors.Loss.{Loss}
-use Rattle.store_core.specs.State.{State, version}
+use Rattle.store_core.specs.State.{State}
 use Rattle.store_core.specs.declared.entry.Change.{Change}
-use Rattle.cmd_tasks.specs.Trace.{Sight, Found, found, up_to, now, rows_now, found_in, seen_by, shown_by, Looks}
+use Rattle.cmd_tasks.specs.Trace.{Sight, Found, found, up_to, rows_now, found_in, seen_by, shown_by, Looks}
 use Rattle.cmd_tasks.specs.Attempts.{IsWon, IsLost}
 use Rattle.cmd_tasks.specs.Doing.{Doing, change_of}
-use Rattle.cmd_tasks.specs.Taking.{Shown, Standing, settle, win, lose, matching, shown_alone, list_on, replace, with_look, with_item, look_again, Turn, looks_on, looks_again, attempts, is_done, gives_up, take_with, turn_again, turn_on, turn_of, turn}
+use Rattle.cmd_tasks.specs.Taking.{Shown, Standing, settle, win, lose, matching, shown_alone, list_on, replace, with_look, with_item, look_again, looks_on, looks_again, is_done, gives_up, take_with, turn_again, turn_on, turn_of, turn}
 use Rattle.cmd_tasks.specs.Turns.{LooksAlone, IsPage, IsAlone, Follows}
 use Rattle.cmd_tasks.specs.Served.{one_if_wrote}
 use Rattle.cmd_tasks.specs.declared.trace.Item.{Item}

@@ -1,12 +1,12 @@
 -- What the reply of a command that takes many documents tells of those that its pages showed.
-use Rattle.std.proofs.Common.{◌≡◌, ℕ, ℤ, zero, suc, ◌+◌, ◌-◌, ◌^◌, ◌<◌, ◌≤◌, List, [], ◌∷◌, ◌++◌, map, length, min, Bool, true, false, cond, Option, Some, None, Result, Ok, Err, refl, sym, ap, ap₂, ◌∙◌, subst, arith, ⊎_elim, ◌⊎◌, inl, inr}
-use Rattle.std.specs.Prelude.{◌&&◌, ◌≢◌, nat_lt, MatchOption, ⊤, if◌then◌else◌}
+use Rattle.std.proofs.Common.{◌≡◌, ℕ, ℤ, ◌+◌, ◌-◌, ◌^◌, ◌≤◌, List, [], ◌∷◌, length, min, Bool, true, false, Option, Some, None, Result, Ok, Err, refl, sym, ap, ◌∙◌, subst, arith, ⊎_elim, ◌⊎◌, inl, inr}
+use Rattle.std.specs.Prelude.{◌&&◌, nat_lt, MatchOption, if◌then◌else◌}
 use Rattle.std.specs.Option.{option_map}
 use Rattle.std.specs.List.{AllByRecursion as Each}
 use Rattle.std.proofs.lemmas.Bool.{ltb-false}
 use Rattle.json_tree.specs.Tree.{Tree}
 use Rattle.shred_cols.specs.Rows.{Rows, is_after, ascends}
-use Rattle.col_keeper.specs.Tables.{Name, rows_in}
+use Rattle.col_keeper.specs.Tables.{Name}
 use Rattle.filter_tree.specs.Filters.{FilterTree}
 use Rattle.view_sort.specs.Page.{state_text}
 use Rattle.view_sort.specs.declared.page.PageState.{PageState}
@@ -14,25 +14,24 @@ use Rattle.update_ops.specs.Clauses.{Clause}
 use Rattle.update_ops.specs.declared.fault.UpdateFault.{UpdateFault}
 use Rattle.reply_env.specs.Reply.{IsRefusalAfter}
 use Rattle.reply_env.specs.declared.reply.ErrorItem.{ErrorItem}
-use Rattle.reply_env.specs.declared.reply.SoFar.{SoFar}
 use Rattle.reply_env.specs.declared.reply.Reply.{Reply}
 use Rattle.reply_env.specs.declared.reply.Reply.TheVariants.{Refused, NoMemory}
-use Rattle.store_core.specs.State.{State, IsGone}
+use Rattle.store_core.specs.State.{State}
 use Rattle.store_core.specs.declared.entry.Change.{Change}
 use Rattle.store_core.specs.declared.entry.Entry.{Entry}
-use Rattle.cmd_grammar.specs.Commands.{update_many, delete_many}
-use Rattle.cmd_tasks.specs.Trace.{Sight, Found, now, rows_now, found_in, seen_by, shown_by}
+use Rattle.cmd_grammar.specs.Commands.{CommandTree, update_many, delete_many}
+use Rattle.cmd_tasks.specs.Trace.{Sight, Found, rows_now, found_in, seen_by, shown_by}
 use Rattle.cmd_tasks.specs.Pages.{last_of}
 use Rattle.cmd_tasks.specs.Part.{given_of}
 use Rattle.cmd_tasks.specs.Doing.{Doing, updates, deletes, change_of}
-use Rattle.cmd_tasks.specs.Taking.{Shown, Standing, count, is_unchanged, settled, settle, win, lose, shown_alone, list_on, replace, standing, Turn, looks_on, looks_again, attempts, is_done, is_refused, gives_up, take_with, turn_again, turn_on, turn_of, turn}
+use Rattle.cmd_tasks.specs.Taking.{Shown, Standing, count, is_unchanged, settled, settle, win, shown_alone, list_on, replace, standing, Turn, looks_on, looks_again, attempts, is_done, gives_up, take_with, turn_again, turn_on, turn_of, turn}
 use Rattle.cmd_tasks.specs.Turns.{IsWrite, MarksTurn, so_far_of, state_behind, done_reply, Ends}
-use Rattle.cmd_tasks.specs.Served.{accepted, one_if_wrote, Stops, IsPartOf, IsStopped, Serves, sights, IsServed}
-use Rattle.cmd_tasks.specs.Tally.{Taken, counted_of, changed_of, listed, TellsAll, told_before, matched, modified, AreMore, next_state, Tells, AreTaken}
+use Rattle.cmd_tasks.specs.Served.{accepted, one_if_wrote, Stops, Marks, IsToWrite, done_by, done_before, IsPartOf, IsStopped, Answers, Serves, sights, IsServed}
+use Rattle.cmd_tasks.specs.Tally.{Taken, counted_of, listed, TellsAll, told_before, matched, modified, AreMore, next_state, Tells, AreTaken}
 use Rattle.cmd_tasks.specs.declared.trace.Item.{Item}
 use Rattle.cmd_tasks.specs.declared.trace.Item.TheVariants.{Looked, Wrote, Lost, Faulted}
 use Rattle.cmd_tasks.proofs.Ascent.{InOrder, sights_rows}
-use Rattle.cmd_tasks.proofs.Covering.{each_of_map, IsPast}
+use Rattle.cmd_tasks.proofs.Covering.{each_of_map}
 use Rattle.cmd_tasks.proofs.Stepping.{alone_shows_none, IsPaged, IsRelooked, IsWritten, IsBeaten, steps}
 use Rattle.cmd_tasks.proofs.Tallying.{IsTallied, tallied_more, Waits, AreSteps, tallied}
 use Rattle.cmd_tasks.proofs.Reaching.{IsReached, still, reached}
@@ -125,9 +124,9 @@ module _ (base : State) (coll : Name) (k : ℕ) (f : FilterTree) (doing : Doing)
       told_so_far deletes = λ j. if nat_lt 0 (t.modified j) then Some (told_before deletes (t.matched j) (t.modified j)) else None
 
       refused : (d : Doing) (error : ErrorItem) (reply : Reply) → IsRefusalAfter (so_far_of d st) error reply → Tells page t.taken t.waiting d reply × (TellsAll reply → st.is_whole ≡ true)
-      refused (updates u moment) error (Refused errors done) h = (h.1 ∙ told_so_far (updates u moment), λ none. absurd none)
+      refused (updates u moment) error (Refused errors before) h = (h.1 ∙ told_so_far (updates u moment), λ none. absurd none)
       refused (updates u moment) error reply h = absurd h
-      refused deletes error (Refused errors done) h = (h.1 ∙ told_so_far deletes, λ none. absurd none)
+      refused deletes error (Refused errors before) h = (h.1 ∙ told_so_far deletes, λ none. absurd none)
       refused deletes error reply h = absurd h
 
       cut : (d : Doing) (n : ℕ) → n ≡ st.modified → Tells page t.taken t.waiting d (NoMemory n) × (TellsAll (NoMemory n) → st.is_whole ≡ true)
@@ -289,6 +288,38 @@ module _ (base : State) (coll : Name) (k : ℕ) (f : FilterTree) (doing : Doing)
 -- ---- the two commands
 
 module _ (base : State) (coll : Name) (k : ℕ) (moment : ℤ) (f : FilterTree) where
+  module _ (doing : Doing) (page : Option PageState) (c : CommandTree) (parts : (sights : List Sight) → IsPartOf base coll k moment c sights → AreSteps base coll k f doing (option_map (λ p. p.last) page) sights) where
+    abbrev at : List Sight → Standing
+    at sights = standing base coll f doing (option_map (λ p. p.last) page) sights
+
+    -- what a command of turns answers, and where it stops
+    served : ((sights : List Sight) (reply : Reply) → Answers base coll k moment c sights reply → Ends doing page (at sights) (turn doing (at sights)) reply)
+        → ((s : Sight) (earlier : List Sight) (error : ErrorItem) → Stops base coll k (Marks base coll k moment c earlier) (IsToWrite base coll k moment c earlier) s.item s error
+        → Stops base coll k (MarksTurn (turn doing (at earlier))) (IsWrite (turn doing (at earlier))) s.item s error)
+        → ((sights : List Sight) → done_by base coll k moment c sights ≡ so_far_of doing (at sights))
+        → (sights : List Sight) (reply : Reply) → Each (λ s. ascends (rows_now base coll s) ≡ true) sights → Serves base coll k moment c sights reply → AreTaken base coll k f doing page sights reply
+    served answers stops before sights reply sorted h = ⊎_elim
+        (λ a. taken_answered base coll k f doing page sights sorted (parts sights a.0) reply (answers sights reply a.1))
+        (λ more. ⊎_elim
+        (λ (z : (error : ErrorItem) × IsStopped base coll k moment c sights error × IsRefusalAfter (done_before base coll k moment c sights) error reply). stopped sights sorted z.0 z.1 z.2)
+        (λ cut. ⊎_elim
+        (λ part. taken_cut base coll k f doing page sights sorted (parts sights part) reply cut.1)
+        (λ (z : (error : ErrorItem) × IsStopped base coll k moment c sights error). stopped_cut sights sorted z.0 z.1 cut.1)
+        cut.0)
+        more)
+        h
+      where
+        stopped : (sights : List Sight) → Each (λ s. ascends (rows_now base coll s) ≡ true) sights → (error : ErrorItem) → IsStopped base coll k moment c sights error
+            → IsRefusalAfter (done_before base coll k moment c sights) error reply → AreTaken base coll k f doing page sights reply
+        stopped [] sorted error h e = absurd h
+        stopped (s ∷ earlier) sorted error h e =
+            taken_stopped base coll k f doing page earlier sorted.1 (parts earlier h.0) s error (stops s earlier error h.2) reply (subst (λ o. IsRefusalAfter o error reply) (before earlier) e)
+
+        stopped_cut : (sights : List Sight) → Each (λ s. ascends (rows_now base coll s) ≡ true) sights → (error : ErrorItem) → IsStopped base coll k moment c sights error
+            → reply ≡ NoMemory (accepted sights) → AreTaken base coll k f doing page sights reply
+        stopped_cut [] sorted error h e = absurd h
+        stopped_cut (s ∷ earlier) sorted error h e = taken_stopped_cut base coll k f doing page earlier sorted.1 (parts earlier h.0) s error (stops s earlier error h.2) reply e
+
   update_steps : (u : List Clause) (page : Option PageState) (sights : List Sight) → IsPartOf base coll k moment (update_many f u page) sights → AreSteps base coll k f (updates u moment) (option_map (λ p. p.last) page) sights
   update_steps u page [] h = tt
   update_steps u page (s ∷ earlier) h = (update_steps u page earlier h.0, h.2)
@@ -297,57 +328,13 @@ module _ (base : State) (coll : Name) (k : ℕ) (moment : ℤ) (f : FilterTree) 
   delete_steps [] h = tt
   delete_steps (s ∷ earlier) h = (delete_steps earlier h.0, h.2)
 
-  pub updated : (u : List Clause) (page : Option PageState) (sights : List Sight) (reply : Reply) → Each (λ s. ascends (rows_now base coll s) ≡ true) sights
-      → Serves base coll k moment (update_many f u page) sights reply → AreTaken base coll k f (updates u moment) page sights reply
-  updated u page sights reply sorted h = ⊎_elim
-      (λ a. taken_answered base coll k f (updates u moment) page sights sorted (update_steps u page sights a.0) reply a.1)
-      (λ more. ⊎_elim
-      (λ (z : (error : ErrorItem) × IsStopped base coll k moment (update_many f u page) sights error × IsRefusalAfter (Rattle.cmd_tasks.specs.Served.done_before base coll k moment (update_many f u page) sights) error reply). stopped sights sorted z.0 z.1 z.2)
-      (λ cut. ⊎_elim
-      (λ part. taken_cut base coll k f (updates u moment) page sights sorted (update_steps u page sights part) reply cut.1)
-      (λ (z : (error : ErrorItem) × IsStopped base coll k moment (update_many f u page) sights error). stopped_cut sights sorted z.0 z.1 cut.1)
-      cut.0)
-      more)
-      h
-    where
-      stopped : (sights : List Sight) → Each (λ s. ascends (rows_now base coll s) ≡ true) sights → (error : ErrorItem) → IsStopped base coll k moment (update_many f u page) sights error
-          → IsRefusalAfter (Rattle.cmd_tasks.specs.Served.done_before base coll k moment (update_many f u page) sights) error reply → AreTaken base coll k f (updates u moment) page sights reply
-      stopped [] sorted error h e = absurd h
-      stopped (s ∷ earlier) sorted error h e = taken_stopped base coll k f (updates u moment) page earlier sorted.1 (update_steps u page earlier h.0) s error h.2 reply e
-
-      stopped_cut : (sights : List Sight) → Each (λ s. ascends (rows_now base coll s) ≡ true) sights → (error : ErrorItem) → IsStopped base coll k moment (update_many f u page) sights error
-          → reply ≡ NoMemory (accepted sights) → AreTaken base coll k f (updates u moment) page sights reply
-      stopped_cut [] sorted error h e = absurd h
-      stopped_cut (s ∷ earlier) sorted error h e = taken_stopped_cut base coll k f (updates u moment) page earlier sorted.1 (update_steps u page earlier h.0) s error h.2 reply e
-
-  pub deleted : (sights : List Sight) (reply : Reply) → Each (λ s. ascends (rows_now base coll s) ≡ true) sights
-      → Serves base coll k moment (delete_many f) sights reply → AreTaken base coll k f deletes None sights reply
-  deleted sights reply sorted h = ⊎_elim
-      (λ a. taken_answered base coll k f deletes None sights sorted (delete_steps sights a.0) reply a.1)
-      (λ more. ⊎_elim
-      (λ (z : (error : ErrorItem) × IsStopped base coll k moment (delete_many f) sights error × IsRefusalAfter (Rattle.cmd_tasks.specs.Served.done_before base coll k moment (delete_many f) sights) error reply). stopped sights sorted z.0 z.1 z.2)
-      (λ cut. ⊎_elim
-      (λ part. taken_cut base coll k f deletes None sights sorted (delete_steps sights part) reply cut.1)
-      (λ (z : (error : ErrorItem) × IsStopped base coll k moment (delete_many f) sights error). stopped_cut sights sorted z.0 z.1 cut.1)
-      cut.0)
-      more)
-      h
-    where
-      stopped : (sights : List Sight) → Each (λ s. ascends (rows_now base coll s) ≡ true) sights → (error : ErrorItem) → IsStopped base coll k moment (delete_many f) sights error
-          → IsRefusalAfter (Rattle.cmd_tasks.specs.Served.done_before base coll k moment (delete_many f) sights) error reply → AreTaken base coll k f deletes None sights reply
-      stopped [] sorted error h e = absurd h
-      stopped (s ∷ earlier) sorted error h e = taken_stopped base coll k f deletes None earlier sorted.1 (delete_steps earlier h.0) s error h.2 reply e
-
-      stopped_cut : (sights : List Sight) → Each (λ s. ascends (rows_now base coll s) ≡ true) sights → (error : ErrorItem) → IsStopped base coll k moment (delete_many f) sights error
-          → reply ≡ NoMemory (accepted sights) → AreTaken base coll k f deletes None sights reply
-      stopped_cut [] sorted error h e = absurd h
-      stopped_cut (s ∷ earlier) sorted error h e = taken_stopped_cut base coll k f deletes None earlier sorted.1 (delete_steps earlier h.0) s error h.2 reply e
-
   -- what was served, on a base whose rows are in order of id
   pub updates_taken : (H : List Entry) → InOrder base.collections → (u : List Clause) (page : Option PageState) (trace : List Item) (reply : Reply) → IsServed base H coll k moment (update_many f u page) trace reply
       → AreTaken base coll k f (updates u moment) page (sights H trace) reply
-  updates_taken H sorted u page trace reply h = updated u page (sights H trace) reply (sights_rows base H coll sorted trace) h
+  updates_taken H sorted u page trace reply h =
+      served (updates u moment) page (update_many f u page) (update_steps u page) (λ sights reply a. a) (λ s earlier error a. a) (λ sights. refl) (sights H trace) reply (sights_rows base H coll sorted trace) h
 
   pub deletes_taken : (H : List Entry) → InOrder base.collections → (trace : List Item) (reply : Reply) → IsServed base H coll k moment (delete_many f) trace reply
       → AreTaken base coll k f deletes None (sights H trace) reply
-  deletes_taken H sorted trace reply h = deleted (sights H trace) reply (sights_rows base H coll sorted trace) h
+  deletes_taken H sorted trace reply h =
+      served deletes None (delete_many f) delete_steps (λ sights reply a. a) (λ s earlier error a. a) (λ sights. refl) (sights H trace) reply (sights_rows base H coll sorted trace) h

@@ -143,7 +143,7 @@ module _ (page : Option PageState) (taken : List Taken) (left : List Shown) wher
   abbrev pub Tells : Doing → Reply → Type 0
   Tells (updates u moment) (UpdatedMany m n state) = (m ≡ matched) × (n ≡ modified) × MatchOption state (left ≡ []) (λ text. AreMore × (next_state ≡ Some text))
   Tells deletes (DeletedMany n more) = (n ≡ modified) × AreLeft more
-  Tells doing (Refused errors done) = done ≡ (if nat_lt 0 modified then Some (told_before doing matched modified) else None)
+  Tells doing (Refused errors before) = before ≡ (if nat_lt 0 modified then Some (told_before doing matched modified) else None)
   Tells doing (NoMemory n) = n ≡ modified
   Tells doing reply = ⊥
 
