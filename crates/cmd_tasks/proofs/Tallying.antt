@@ -17,8 +17,8 @@ use Rattle.cmd_tasks.specs.Attempts.{IsOneOf}
 use Rattle.cmd_tasks.specs.Pages.{last_of}
 use Rattle.cmd_tasks.specs.Doing.{Doing, change_of}
 use Rattle.cmd_tasks.specs.Taking.{Shown, Standing, count, is_unchanged, settled, settle, shown_with, win, lose, shown_alone, list_on, replace, standing, turn}
-use Rattle.cmd_tasks.specs.Turns.{Follows}
-use Rattle.cmd_tasks.specs.Tally.{Fate, changed, unchanged, passed, is_counted, is_changed, Taken, counted_of, changed_of, IsTouched, ShowsAlone, IsVersion, Meets, listed}
+use Rattle.cmd_tasks.specs.Turns.{IsAlone, Follows}
+use Rattle.cmd_tasks.specs.Tally.{Fate, changed, unchanged, passed, is_counted, is_changed, Taken, counted_of, changed_of, IsTouched, ShowsNow, IsVersion, Meets, listed}
 use Rattle.cmd_tasks.proofs.Covering.{and_parts, each_weaker}
 use Rattle.cmd_tasks.proofs.Ascent.{each_append}
 use Rattle.cmd_tasks.proofs.Stepping.{alone_is, IsPaged, IsRelooked, IsWritten, IsBeaten, steps}
@@ -45,53 +45,46 @@ last_id taken = option_map (λ t. t.shown.x.id) (last_of (counted_of taken))
 module _ (base : State) (coll : Name) (k : ℕ) (f : FilterTree) (doing : Doing) where
   -- ---- what is known of a document stays known
 
-  touched_more : (s : Sight) (sights : List Sight) (w : Shown) → IsTouched base coll k f sights w → IsTouched base coll k f (s ∷ sights) w
+  touched_more : (s : Sight) (sights : List Sight) (w : Shown) → IsTouched coll k sights w → IsTouched coll k (s ∷ sights) w
   touched_more s sights w h = (h.0, one_more h.0 s sights h.1, h.2)
 
-  alone_more : (s : Sight) (sights : List Sight) (id : Tree) (xs : List Found) → ShowsAlone base coll k f sights id xs → ShowsAlone base coll k f (s ∷ sights) id xs
-  alone_more s sights id xs h = (h.0, one_more h.0 s sights h.1, h.2, h.3)
+  shows_more : (s : Sight) (sights : List Sight) (w : Shown) (xs : List Found) → ShowsNow base coll k f sights w xs → ShowsNow base coll k f (s ∷ sights) w xs
+  shows_more s sights w xs h = record { newer = s ∷ h.newer; look = h.look; earlier = h.earlier; are = ap (λ z. s ∷ z) h.are; touched = h.touched; alone = h.alone; shows = h.shows }
 
   version_more : (s : Sight) (sights : List Sight) (w : Shown) (x : Found) → IsVersion base coll k f sights w x → IsVersion base coll k f (s ∷ sights) w x
-  version_more s sights w x h = ⊎_elim (λ e. inl e) (λ (z : (x.id ≡ w.x.id) × IsTouched base coll k f sights w × ShowsAlone base coll k f sights x.id (x ∷ [])). inr (z.0, touched_more s sights w z.1, alone_more s sights x.id (x ∷ []) z.2)) h
+  version_more s sights w x h = ⊎_elim (λ e. inl e) (λ z. inr (shows_more s sights w (x ∷ []) z)) h
 
-  meets_more : (s : Sight) (sights : List Sight) (fate : Fate) (w : Shown) → Meets base coll k f sights doing fate w → Meets base coll k f (s ∷ sights) doing fate w
+  pub meets_more : (s : Sight) (sights : List Sight) (fate : Fate) (w : Shown) → Meets base coll k f sights doing fate w → Meets base coll k f (s ∷ sights) doing fate w
   meets_more s sights changed w h = (h.0, version_more s sights w h.0 h.1, (h.2.0, h.2.1, (h.2.2.0, one_more h.2.2.0 s sights h.2.2.1, h.2.2.2)))
   meets_more s sights unchanged w h = (h.0, version_more s sights w h.0 h.1, h.2)
-  meets_more s sights passed w h = (touched_more s sights w h.0, alone_more s sights w.x.id [] h.1)
+  meets_more s sights passed w h = shows_more s sights w [] h
 
   -- ---- what waits
 
   -- it stands in the queue for a document that a page showed: as that page showed it, or as a look at it alone did
-  abbrev pub StandsFor : List Sight → Shown → Shown → Type 0
-  StandsFor sights w q = (q ≡ w) ⊎ ((q.x.id ≡ w.x.id) × IsTouched base coll k f sights w × ShowsAlone base coll k f sights q.x.id (q.x ∷ []))
+  pub record StandsFor (sights : List Sight) (w q : Shown) : Type 0 where
+    pub same_id : q.x.id ≡ w.x.id
+    pub version : IsVersion base coll k f sights w q.x
+    pub shown : (q ≡ w) ⊎ IsTouched coll k sights w
 
-  version_of_first : (sights : List Sight) (w q : Shown) → StandsFor sights w q → IsVersion base coll k f sights w q.x
-  version_of_first sights w q h = ⊎_elim (λ (e : q ≡ w). inl (ap (λ z. z.x) e)) (λ other. inr other) h
-
-  same_id : (sights : List Sight) (w q : Shown) → StandsFor sights w q → q.x.id ≡ w.x.id
-  same_id sights w q h = ⊎_elim (λ (e : q ≡ w). ap (λ z. z.x.id) e) (λ other. other.0) h
+  stands_more : (s : Sight) (sights : List Sight) (w q : Shown) → StandsFor sights w q → StandsFor (s ∷ sights) w q
+  stands_more s sights w q h = record { same_id = h.same_id; version = version_more s sights w q.x h.version; shown = ⊎_elim (λ e. inl e) (λ z. inr (touched_more s sights w z)) h.shown }
 
   -- the queue stands for what waits; another session touched the first of it, if an attempt was lost
   abbrev pub Waits : List Sight → Bool → List Shown → List Shown → Type 0
   Waits sights again [] waiting = waiting ≡ []
-  Waits sights again (q ∷ rest) waiting = (w : Shown) × (waiting ≡ w ∷ rest) × StandsFor sights w q × (again ≡ true → IsTouched base coll k f sights w)
+  Waits sights again (q ∷ rest) waiting = (w : Shown) × (waiting ≡ w ∷ rest) × StandsFor sights w q × (again ≡ true → IsTouched coll k sights w)
 
-  waits_more : (s : Sight) (sights : List Sight) (again : Bool) (queue waiting : List Shown) → Waits sights again queue waiting → Waits (s ∷ sights) again queue waiting
+  pub waits_more : (s : Sight) (sights : List Sight) (again : Bool) (queue waiting : List Shown) → Waits sights again queue waiting → Waits (s ∷ sights) again queue waiting
   waits_more s sights again [] waiting h = h
-  waits_more s sights again (q ∷ rest) waiting h =
-      let w = h.0 in (
-        w,
-        h.1,
-        ⊎_elim (λ (e : q ≡ w). inl e) (λ (z : (q.x.id ≡ w.x.id) × IsTouched base coll k f sights w × ShowsAlone base coll k f sights q.x.id (q.x ∷ [])). inr (z.0, touched_more s sights w z.1, alone_more s sights q.x.id (q.x ∷ []) z.2)) h.2,
-        λ a. touched_more s sights w (h.3 a),
-      )
+  waits_more s sights again (q ∷ rest) waiting h = (h.0, h.1, stands_more s sights h.0 q h.2, λ a. touched_more s sights h.0 (h.3 a))
 
   never : {A : Type 0} → false ≡ true → A
   never e = cc
 
   waits_itself : (sights : List Sight) (again : Bool) (queue : List Shown) → again ≡ false → Waits sights again queue queue
   waits_itself sights again [] h = refl
-  waits_itself sights again (q ∷ rest) h = (q, refl, inl refl, λ a. never (sym h ∙ a))
+  waits_itself sights again (q ∷ rest) h = (q, refl, record { same_id = refl; version = inl refl; shown = inl refl }, λ a. never (sym h ∙ a))
 
   -- ---- what is counted
 
@@ -107,7 +100,7 @@ module _ (base : State) (coll : Name) (k : ℕ) (f : FilterTree) (doing : Doing)
     pub few : st.matched ≤ 20
 
   -- a sight that shows no page
-  pub tallied_more : (s : Sight) (sights : List Sight) (st : Standing) → ◌≡◌ {A = List Found} (shown_by base coll f s) [] → IsTallied sights st → IsTallied (s ∷ sights) st
+  abbrev pub tallied_more : (s : Sight) (sights : List Sight) (st : Standing) → ◌≡◌ {A = List Found} (shown_by base coll f s) [] → IsTallied sights st → IsTallied (s ∷ sights) st
   tallied_more s sights st none t = record {
     taken = t.taken;
     waiting = t.waiting;
@@ -120,26 +113,12 @@ module _ (base : State) (coll : Name) (k : ℕ) (f : FilterTree) (doing : Doing)
     few = t.few;
   }
 
-  -- the first of the queue's is taken
-  module _ (sights : List Sight) (st : Standing) (t : IsTallied sights st) (q : Shown) (rest : List Shown) (queue : st.queue ≡ q ∷ rest) where
-    pub first : (w : Shown) × (t.waiting ≡ w ∷ rest) × StandsFor sights w q × (st.again ≡ true → IsTouched base coll k f sights w)
-    first = subst (λ qs. Waits sights st.again qs t.waiting) queue t.waits
+  -- what the first of the queue's stands for
+  first_of : (sights : List Sight) (st : Standing) (t : IsTallied sights st) (q : Shown) (rest : List Shown) → st.queue ≡ q ∷ rest → (w : Shown) × (t.waiting ≡ w ∷ rest) × StandsFor sights w q × (st.again ≡ true → IsTouched coll k sights w)
+  first_of sights st t q rest queue = subst (λ qs. Waits sights st.again qs t.waiting) queue t.waits
 
-    abbrev pub w : Shown
-    w = first.0
-
-    pub is_touched : st.again ≡ true → IsTouched base coll k f sights w
-    is_touched = first.3
-
-    pub is_version : IsVersion base coll k f sights w q.x
-    is_version = version_of_first sights w q first.2
-
-    pub stands_for : StandsFor sights w q
-    stands_for = first.2
-
-    id_is : q.x.id ≡ w.x.id
-    id_is = same_id sights w q first.2
-
+  -- the first of what waits is taken
+  module _ (sights : List Sight) (st : Standing) (t : IsTallied sights st) (w : Shown) (rest : List Shown) (waiting_is : t.waiting ≡ w ∷ rest) where
     abbrev one : Fate → Taken
     one fate = record { shown = w; fate = fate }
 
@@ -149,9 +128,9 @@ module _ (base : State) (coll : Name) (k : ℕ) (f : FilterTree) (doing : Doing)
     changed_sum : (fate : Fate) → length (changed_of (t.taken ++ one fate ∷ [])) ≡ st.modified + length (changed_of (one fate ∷ []))
     changed_sum fate = ap length (filter-append (λ z. is_changed z.fate) t.taken (one fate ∷ [])) ∙ (length-append (changed_of t.taken) (changed_of (one fate ∷ [])) ∙ ap (λ n. n + length (changed_of (one fate ∷ []))) (sym t.modified))
 
-    counted_last : (fate : Fate) → is_counted fate ≡ true → Some q.x.id ≡ last_id (t.taken ++ one fate ∷ [])
-    counted_last fate c =
-        ap (λ i. Some i) id_is
+    counted_last : (fate : Fate) (id : Tree) → id ≡ w.x.id → is_counted fate ≡ true → Some id ≡ last_id (t.taken ++ one fate ∷ [])
+    counted_last fate id same c =
+        ap (λ i. Some i) same
         ∙ sym (ap (λ zs. option_map (λ (z : Taken). z.shown.x.id) (last_of zs)) (filter-append (λ z. is_counted z.fate) t.taken (one fate ∷ []) ∙ ap (λ b. counted_of t.taken ++ cond b (one fate ∷ []) []) c)
         ∙ ap (option_map (λ (z : Taken). z.shown.x.id)) (last_snoc (counted_of t.taken) (one fate)))
 
@@ -159,15 +138,15 @@ module _ (base : State) (coll : Name) (k : ℕ) (f : FilterTree) (doing : Doing)
     passed_last = t.last ∙ sym (ap (λ zs. option_map (λ (z : Taken). z.shown.x.id) (last_of zs)) (filter-append (λ z. is_counted z.fate) t.taken (one passed ∷ []) ∙ append-nil (counted_of t.taken)))
 
     all_is : (fate : Fate) → listed base coll f sights ≡ map (λ z. z.shown) (t.taken ++ one fate ∷ []) ++ rest
-    all_is fate = snoc_is (listed base coll f sights) t.taken (one fate) t.waiting rest t.all first.1
+    all_is fate = snoc_is (listed base coll f sights) t.taken (one fate) t.waiting rest t.all waiting_is
 
     each_is : (fate : Fate) → Meets base coll k f sights doing fate w → Each (λ z. Meets base coll k f sights doing z.fate z.shown) (t.taken ++ one fate ∷ [])
     each_is fate h = each_append _ t.taken (one fate ∷ []) t.each (h, tt)
 
     -- it is changed
-    pub tallied_changed : (new : Standing) → new.again ≡ false → new.queue ≡ rest → new.matched ≡ st.matched + 1 → new.modified ≡ st.modified + 1 → new.last ≡ Some q.x.id → nat_lt st.matched 20 ≡ true
+    tallied_changed : (new : Standing) (id : Tree) → id ≡ w.x.id → new.again ≡ false → new.queue ≡ rest → new.matched ≡ st.matched + 1 → new.modified ≡ st.modified + 1 → new.last ≡ Some id → nat_lt st.matched 20 ≡ true
         → Meets base coll k f sights doing changed w → IsTallied sights new
-    tallied_changed new again next matched modified last few h = record {
+    tallied_changed new id same again next matched modified last few h = record {
       taken = t.taken ++ one changed ∷ [];
       waiting = rest;
       all = all_is changed;
@@ -175,14 +154,14 @@ module _ (base : State) (coll : Name) (k : ℕ) (f : FilterTree) (doing : Doing)
       waits = subst (λ qs. Waits sights new.again qs rest) (sym next) (waits_itself sights new.again rest again);
       matched = matched ∙ sym (counted_sum changed);
       modified = modified ∙ sym (changed_sum changed);
-      last = last ∙ counted_last changed refl;
+      last = last ∙ counted_last changed id same refl;
       few = let l = ltb-true st.matched 20 few in omega (arith, l, matched);
     }
 
     -- it is counted as it is
-    pub tallied_unchanged : (new : Standing) → new.again ≡ false → new.queue ≡ rest → new.matched ≡ st.matched + 1 → new.modified ≡ st.modified → new.last ≡ Some q.x.id → nat_lt st.matched 20 ≡ true
+    tallied_unchanged : (new : Standing) (id : Tree) → id ≡ w.x.id → new.again ≡ false → new.queue ≡ rest → new.matched ≡ st.matched + 1 → new.modified ≡ st.modified → new.last ≡ Some id → nat_lt st.matched 20 ≡ true
         → Meets base coll k f sights doing unchanged w → IsTallied sights new
-    tallied_unchanged new again next matched modified last few h = record {
+    tallied_unchanged new id same again next matched modified last few h = record {
       taken = t.taken ++ one unchanged ∷ [];
       waiting = rest;
       all = all_is unchanged;
@@ -190,12 +169,12 @@ module _ (base : State) (coll : Name) (k : ℕ) (f : FilterTree) (doing : Doing)
       waits = subst (λ qs. Waits sights new.again qs rest) (sym next) (waits_itself sights new.again rest again);
       matched = matched ∙ sym (counted_sum unchanged);
       modified = modified ∙ (let c = changed_sum unchanged in omega (arith, c));
-      last = last ∙ counted_last unchanged refl;
+      last = last ∙ counted_last unchanged id same refl;
       few = let l = ltb-true st.matched 20 few in omega (arith, l, matched);
     }
 
     -- it is passed over
-    pub tallied_passed : (new : Standing) → new.again ≡ false → new.queue ≡ rest → new.matched ≡ st.matched → new.modified ≡ st.modified → new.last ≡ st.last
+    tallied_passed : (new : Standing) → new.again ≡ false → new.queue ≡ rest → new.matched ≡ st.matched → new.modified ≡ st.modified → new.last ≡ st.last
         → Meets base coll k f sights doing passed w → IsTallied sights new
     tallied_passed new again next matched modified last h = record {
       taken = t.taken ++ one passed ∷ [];
@@ -210,14 +189,14 @@ module _ (base : State) (coll : Name) (k : ℕ) (f : FilterTree) (doing : Doing)
     }
 
     -- another version of it, or the same once more, stands first; or it is to be looked at again
-    pub tallied_still : (new : Standing) (first' : Shown) → new.queue ≡ first' ∷ rest → new.matched ≡ st.matched → new.modified ≡ st.modified → new.last ≡ st.last
-        → StandsFor sights w first' → (new.again ≡ true → IsTouched base coll k f sights w) → IsTallied sights new
+    tallied_still : (new : Standing) (first' : Shown) → new.queue ≡ first' ∷ rest → new.matched ≡ st.matched → new.modified ≡ st.modified → new.last ≡ st.last
+        → StandsFor sights w first' → (new.again ≡ true → IsTouched coll k sights w) → IsTallied sights new
     tallied_still new first' next matched modified last stands touched = record {
       taken = t.taken;
       waiting = t.waiting;
       all = t.all;
       each = t.each;
-      waits = subst (λ qs. Waits sights new.again qs t.waiting) (sym next) (w, first.1, stands, touched);
+      waits = subst (λ qs. Waits sights new.again qs t.waiting) (sym next) (w, waiting_is, stands, touched);
       matched = matched ∙ t.matched;
       modified = modified ∙ t.modified;
       last = last ∙ t.last;
@@ -238,8 +217,10 @@ module _ (base : State) (coll : Name) (k : ℕ) (f : FilterTree) (doing : Doing)
       → IsTallied sights (if b then settled doing rest (count q.x 0 rest st) else record st { queue = q ∷ rest })) [
         | true ↦ λ e.
             let both = and_parts _ _ e in
+            let first = first_of sights st t q rest is in
             settled_tallied sights rest (count q.x 0 rest st) refl again
-            (tallied_unchanged sights st t q rest is (count q.x 0 rest st) again refl refl (omega arith) refl both.0 (q.x, is_version sights st t q rest is, needs_none (change_of doing q.x.doc) both.1))
+            (tallied_unchanged sights st t first.0 rest first.1 (count q.x 0 rest st) q.x.id first.2.same_id again refl refl (omega arith) refl both.0
+            (q.x, first.2.version, needs_none (change_of doing q.x.doc) both.1))
         | false ↦ λ e. subst (λ qs. IsTallied sights (record st { queue = qs })) is t
       ] refl
 
@@ -271,22 +252,20 @@ module _ (base : State) (coll : Name) (k : ℕ) (f : FilterTree) (doing : Doing)
   written s earlier st new p t =
       let here = s ∷ earlier in
       let now_is = tallied_more s earlier st p.lists t in
+      let first = first_of here st now_is p.first p.rest p.queue in
       let won : Standing = win (p.first ∷ p.rest) st in
       subst (IsTallied here) (sym (p.new_is ∙ ap (λ qs. settle doing (win qs st)) p.queue))
-      (settle_tallied here won refl (tallied_changed here st now_is p.first p.rest p.queue won refl refl refl refl refl p.few
-      (p.first.x, is_version here st now_is p.first p.rest p.queue, (p.change, p.made, (s, (zero, refl), p.won)))))
+      (settle_tallied here won refl (tallied_changed here st now_is first.0 p.rest first.1 won p.first.x.id first.2.same_id refl refl refl refl refl p.few
+      (p.first.x, first.2.version, (p.change, p.made, (s, (zero, refl), p.won)))))
 
   beaten : (s : Sight) (earlier : List Sight) (st new : Standing) → IsBeaten base coll k f doing s st new → IsTallied earlier st → IsTallied (s ∷ earlier) new
   beaten s earlier st new p t =
       let here = s ∷ earlier in
       let now_is = tallied_more s earlier st p.lists t in
-      let stands = stands_for here st now_is p.first p.rest p.queue in
-      let v = w here st now_is p.first p.rest p.queue in
+      let first = first_of here st now_is p.first p.rest p.queue in
       subst (IsTallied here) (sym p.new_is)
-      (tallied_still here st now_is p.first p.rest p.queue (lose p.loss st) p.first p.queue refl refl refl stands
-      (λ again. ⊎_elim
-      (λ (e : p.first ≡ v). subst (λ z. IsTouched base coll k f here z) e (s, (zero, refl), p.lost.between))
-      (λ other. other.1) stands))
+      (tallied_still here st now_is first.0 p.rest first.1 (lose p.loss st) p.first p.queue refl refl refl first.2
+      (λ again. ⊎_elim (λ (e : p.first ≡ first.0). subst (λ z. IsTouched coll k here z) e (s, (zero, refl), p.lost.between)) (λ touched. touched) first.2.shown))
 
   relooked : (s : Sight) (earlier : List Sight) (st new : Standing) → IsRelooked base coll k f doing s st new → IsTallied earlier st → IsTallied (s ∷ earlier) new
   relooked s earlier st new p t = subst (IsTallied here) (sym p.new_is) (go (shown_alone base coll f p.first.x.id s) refl)
@@ -294,28 +273,29 @@ module _ (base : State) (coll : Name) (k : ℕ) (f : FilterTree) (doing : Doing)
       here : List Sight
       here = s ∷ earlier
 
-      now_is : IsTallied here st
-      now_is = tallied_more s earlier st p.lists t
+      first : (w : Shown) × (t.waiting ≡ w ∷ p.rest) × StandsFor earlier w p.first × (st.again ≡ true → IsTouched coll k earlier w)
+      first = first_of earlier st t p.first p.rest p.queue
 
-      v : Shown
-      v = w here st now_is p.first p.rest p.queue
-
-      touched : IsTouched base coll k f here v
-      touched = is_touched here st now_is p.first p.rest p.queue p.again
-
-      same : p.first.x.id ≡ v.x.id
-      same = same_id here v p.first (stands_for here st now_is p.first p.rest p.queue)
+      shows_so : (xs : List Found) → shown_alone base coll f p.first.x.id s ≡ xs → ShowsNow base coll k f here first.0 xs
+      shows_so xs e = record {
+        newer = [];
+        look = s;
+        earlier = earlier;
+        are = refl;
+        touched = first.3 p.again;
+        alone = subst (λ id. IsAlone base coll k f id s) first.2.same_id p.alone;
+        shows = ap (λ id. shown_alone base coll f id s) (sym first.2.same_id) ∙ e;
+      }
 
       go : (xs : List Found) → shown_alone base coll f p.first.x.id s ≡ xs → IsTallied here (settle doing (replace base coll f s xs p.rest st))
       go [] e =
           let next : Standing = replace base coll f s [] p.rest st in
-          settle_tallied here next refl (tallied_passed here st now_is p.first p.rest p.queue next refl refl refl refl refl
-          (touched, subst (λ id. ShowsAlone base coll k f here id []) same (s, (zero, refl), p.alone, e)))
+          settle_tallied here next refl (tallied_passed here st (tallied_more s earlier st p.lists t) first.0 p.rest first.1 next refl refl refl refl refl (shows_so [] e))
       go (x ∷ xs) e =
           let next : Standing = replace base coll f s (x ∷ xs) p.rest st in
           let only = alone_is f p.first.x.id (version (now base coll s) coll p.first.x.id) x xs e in
-          settle_tallied here next refl (tallied_still here st now_is p.first p.rest p.queue next (record { x = x; look = s }) refl refl refl refl
-          (inr (only.0 ∙ same, touched, subst (λ id. ShowsAlone base coll k f here id (x ∷ [])) (sym only.0) (s, (zero, refl), p.alone, e ∙ ap (λ ys. x ∷ ys) only.1)))
+          settle_tallied here next refl (tallied_still here st (tallied_more s earlier st p.lists t) first.0 p.rest first.1 next (record { x = x; look = s }) refl refl refl refl
+          (record { same_id = only.0 ∙ first.2.same_id; version = inr (shows_so (x ∷ []) (e ∙ ap (λ ys. x ∷ ys) only.1)); shown = inr (touched_more s earlier first.0 (first.3 p.again)) })
           (λ a. never a))
 
   module _ (from : Option Tree) where

@@ -57,18 +57,24 @@ counted_of taken = filter (λ t. is_counted t.fate) taken
 abbrev pub changed_of : List Taken → List Taken
 changed_of taken = filter (λ t. is_changed t.fate) taken
 
-module _ (base : State) (coll : Name) (k : ℕ) (f : FilterTree) (sights : List Sight) where
-  -- another session changed it, or dropped its collection, between the look at its page and a later sight
-  abbrev pub IsTouched : Shown → Type 0
-  IsTouched s = (later : Sight) × IsOneOf later sights × (list_any (comes_between coll k s.x.id) (drop (length s.look.past) later.past) ≡ true)
+-- another session changed it, or dropped its collection, between the look at its page and one of these sights
+abbrev pub IsTouched : Name → ℕ → List Sight → Shown → Type 0
+IsTouched coll k sights s = (later : Sight) × IsOneOf later sights × (list_any (comes_between coll k s.x.id) (drop (length s.look.past) later.past) ≡ true)
 
-  -- a look at this id alone showed these
-  abbrev pub ShowsAlone : Tree → List Found → Type 0
-  ShowsAlone id xs = (look : Sight) × IsOneOf look sights × IsAlone base coll k f id look × (shown_alone base coll f id look ≡ xs)
+module _ (base : State) (coll : Name) (k : ℕ) (f : FilterTree) (sights : List Sight) where
+  -- another session changed it, and then a look at it alone showed these
+  pub record ShowsNow (s : Shown) (xs : List Found) : Type 0 where
+    pub newer : List Sight
+    pub look : Sight
+    pub earlier : List Sight
+    pub are : sights ≡ newer ++ look ∷ earlier
+    pub touched : IsTouched coll k earlier s
+    pub alone : IsAlone base coll k f s.x.id look
+    pub shows : shown_alone base coll f s.x.id look ≡ xs
 
   -- the document as its page showed it, or as a look at it alone did after another session had changed it
   abbrev pub IsVersion : Shown → Found → Type 0
-  IsVersion s x = (x ≡ s.x) ⊎ ((x.id ≡ s.x.id) × IsTouched s × ShowsAlone x.id (x ∷ []))
+  IsVersion s x = (x ≡ s.x) ⊎ ShowsNow s (x ∷ [])
 
   module _ (doing : Doing) where
     -- changed: a write of this session made of this version what the command makes of it
@@ -81,7 +87,7 @@ module _ (base : State) (coll : Name) (k : ℕ) (f : FilterTree) (sights : List 
 
     -- passed over: another session changed it, and then a look at it alone showed nothing that matches
     abbrev pub IsPassed : Shown → Type 0
-    IsPassed s = IsTouched s × ShowsAlone s.x.id []
+    IsPassed s = ShowsNow s []
 
     abbrev pub Meets : Fate → Shown → Type 0
     Meets changed s = IsChanged s
