@@ -313,7 +313,7 @@ class Inputs:
             '{"$set":{"k":%d}}' % self.rng.randint(0, 9), '{"$inc":{"n":%s}}' % self.rng.choice(["1", "-1", "0", "0.5"]),
             '{"$max":{"n":%d}}' % self.rng.randint(0, 40), '{"$unset":{"%s":1}}' % self.rng.choice("ab"),
             '{"$addToSet":{"tags":%d}}' % self.rng.randint(0, 3), '{"$push":{"tags":%d}}' % self.rng.randint(0, 3),
-            '{"$pop":{"tags":1}}', '{"$currentDate":{"at":true}}', '{"$set":{"t.u":"%s"}}' % self.rng.choice("xy"),
+            '{"$pop":{"tags":1}}', '{"$set":{"t.u":"%s"}}' % self.rng.choice("xy"), '{"$rename":{"a":"m"}}',
             '{"$mul":{"n":2},"$set":{"b":true}}', '{"$setOnInsert":{"k":1}}', '{}'])
 
     def crowded(self):
@@ -323,7 +323,7 @@ class Inputs:
             self.loose(), '{"k":%d}' % self.rng.randint(0, 9), '{"k":{"$lt":%d}}' % self.rng.randint(0, 9),
             '{"n":{"$gte":%d}}' % self.rng.randint(0, 40), '{"_id":{"$gt":%d}}' % number, '{"_id":{"$lt":"d%d"}}' % number,
             '{"tags":%d}' % self.rng.randint(0, 3), '{"tags":{"$size":%d}}' % self.rng.randint(0, 4), '{"b":true}',
-            '{"$or":[{"k":%d},{"_id":%d}]}' % (self.rng.randint(0, 9), number), '{"at":{"$exists":false}}'])
+            '{"$or":[{"k":%d},{"_id":%d}]}' % (self.rng.randint(0, 9), number), '{"t.u":{"$ne":"x"}}'])
 
     def update_many(self):
         update = self.mild() if self.rng.random() < 0.7 else self.update()
