@@ -10,7 +10,7 @@ mod many;
 
 use crate::run::serve;
 use crate::task::{Next, Served, Task};
-use crate::trace::Item;
+use crate::trace::{Item, Trace};
 use cmd_grammar::{Command, read_request};
 use doc_paths::CollName;
 use json_tree::Text;
@@ -67,18 +67,29 @@ fn tells(item: &Item) -> (&'static str, u64) {
     }
 }
 
-// What a request saw and did, item by item with their points, and then its reply.
-fn tale(alloc: Global, served: &Served) -> Result<String, Fail> {
+// What a request saw and did, item by item with their points.
+fn items_of(alloc: Global, trace: &Trace) -> Result<String, Fail> {
     let mut tale = String::new(alloc);
-    for place in 0..served.trace.len() {
-        if let Some(item) = served.trace.item(place) {
+    for place in 0..trace.len() {
+        if let Some(item) = trace.item(place) {
             let (word, at) = tells(item);
             tale.push_str(&format!(in alloc; "{word} {at} ")?)?;
         }
     }
-    let mut reply = Vec::new(alloc);
-    print_reply(alloc, &served.reply, &mut reply)?;
-    tale.push_str(str::from_utf8(reply.as_slice()).unwrap_or("?"))?;
+    Ok(tale)
+}
+
+// The text of a reply.
+fn text_of(alloc: Global, reply: &Reply) -> Result<Vec<u8>, Fail> {
+    let mut text = Vec::new(alloc);
+    print_reply(alloc, reply, &mut text)?;
+    Ok(text)
+}
+
+// What it saw and did, and then its reply.
+fn tale(alloc: Global, served: &Served) -> Result<String, Fail> {
+    let mut tale = items_of(alloc, &served.trace)?;
+    tale.push_str(str::from_utf8(text_of(alloc, &served.reply)?.as_slice()).unwrap_or("?"))?;
     Ok(tale)
 }
 
