@@ -13,11 +13,13 @@ mod Searching
 mod Requests
 mod Selecting
 mod Beginnings
+mod Accepted
 mod Standing
 mod Running
 mod Opening
 pub mod Attempts
 pub mod Lookback
+mod Fitting
 pub mod Rounds
 pub mod Tries
 pub mod Contests
