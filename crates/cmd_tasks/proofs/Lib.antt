@@ -33,3 +33,11 @@ mod Telling
 mod Deletions
 mod Settling
 mod Goings
+mod Waiting
+mod Apart
+mod Following
+mod Leavings
+mod Pagings
+mod Trials
+mod Retrials
+mod Fewness

@@ -150,7 +150,7 @@ module _ (base : Base) (coll : Name) (k : ℕ) (moment : ℤ) where
   pub cut_off : (c : CommandTree) (s : List Sight) → IsBegun base coll k moment c s → Serves base coll k moment c s (NoMemory (accepted s))
   cut_off c s h = inr (inr (inl h.0, refl))
 
-  stops_wrote : (marks : Option Tree → Option Tree → Type 0) (to_write : Type 0) (i : Item) (s : Sight) (error : ErrorItem) → Stops base coll k marks to_write i s error → one_if_wrote i ≡ 0
+  pub stops_wrote : (marks : Option Tree → Option Tree → Type 0) (to_write : Type 0) (i : Item) (s : Sight) (error : ErrorItem) → Stops base coll k marks to_write i s error → one_if_wrote i ≡ 0
   stops_wrote marks to_write (Looked at after up shown) s error h = refl
   stops_wrote marks to_write (Wrote at) s error h = absurd h
   stops_wrote marks to_write (Lost at read found) s error h = absurd h
@@ -158,7 +158,7 @@ module _ (base : Base) (coll : Name) (k : ℕ) (moment : ℤ) where
 
   -- a request that stops at an item, whether its error was told or memory was wanting
   pub stopped_serves : (c : CommandTree) → IsSingle c → (earlier : List Sight) (s : Sight) (error : ErrorItem) (reply : Reply) → IsBegun base coll k moment c earlier
-      → Stops base coll k (Marks base coll k c earlier) (IsToWrite base coll k c earlier) s.item s error → Refuses error reply → Serves base coll k moment c (s ∷ earlier) reply
+      → Stops base coll k (Marks base coll k moment c earlier) (IsToWrite base coll k moment c earlier) s.item s error → Refuses error reply → Serves base coll k moment c (s ∷ earlier) reply
   stopped_serves c one earlier s error reply begun stops refuses = ⊎_elim
       (λ (r : IsRefusal error reply). inr (inl (error, (begun.0, begun.1, stops), subst (λ (z : Option SoFar). IsRefusalAfter z error reply) (sym (nothing_done c one earlier)) r)))
       (λ (e : reply ≡ NoMemory 0). let a = accepts c one earlier begun in let b = stops_wrote _ _ s.item s error stops in let z : 0 ≡ one_if_wrote s.item + accepted earlier = omega arith in inr (inr (inr (error, (begun.0, begun.1, stops)), e ∙ ap NoMemory z)))

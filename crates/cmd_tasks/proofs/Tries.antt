@@ -166,7 +166,7 @@ module _ (base : Base) (coll : Name) (k : ℕ) (moment : ℤ) (u : Updating) whe
         → EndsMarked at (Some after) (Some up) (Refuses error) o → Leads base coll k moment H' (Changing u read d) earlier o
     change_marked H' at after up error (m.Goes i w) after_is up_is same here cause is = absurd is
     change_marked H' at after up error (m.Ends i r) after_is up_is same here cause is = stopped_serves base coll k moment (updating u) tt earlier (sight H' i) error r way.0
-        (mark_stops base coll k (Marks base coll k (updating u) earlier) (IsToWrite base coll k (updating u) earlier) H H' at (Some after) (Some up) i error same here is.0
+        (mark_stops base coll k (Marks base coll k moment (updating u) earlier) (IsToWrite base coll k moment (updating u) earlier) H H' at (Some after) (Some up) i error same here is.0
         (match_some (chosen base coll k f sort earlier) kept.x _ _ kept.is (ap (λ (t : Tree). Some t) (after_is ∙ sym kept.same_id), ap (λ (t : Tree). Some t) (up_is ∙ sym kept.same_id)))
         (some_is (chosen base coll k f sort earlier) kept.x kept.is) cause) is.1
     change_marked H' at after up error m.NoMemory after_is up_is same here cause is = absurd is

@@ -18,6 +18,7 @@ pub mod Deleting
 pub mod Many
 pub mod Moves
 pub mod Going
+pub mod ManySteps
 pub mod Stands
 pub mod Joined
 pub mod Tally

@@ -13,6 +13,7 @@ use Rattle.view_sort.specs.declared.page.PageState.{PageState}
 use Rattle.store_core.specs.State.{State as Base, version}
 use Rattle.store_core.specs.Journal.{FitsId, new_doc}
 use Rattle.store_core.specs.Numbers.{touches}
+use Rattle.store_core.specs.Tries.{IsRead}
 use Rattle.cmd_grammar.specs.Commands.{CommandTree, update_many, delete_many, IsAskablePage}
 use Rattle.cmd_tasks.specs.Rank.{rank_of}
 use Rattle.cmd_tasks.specs.Trace.{Sight, Found, now, up_to}
@@ -71,8 +72,9 @@ pub record IsStand (stand : Stand) : Type 0 where
   pub short : AreShort stand.queue.items
   pub lost : length stand.lost.items < 4
 
--- the change may be written
+-- the change may be written in the place of the version that was read
 pub record IsReadyTo (attempt : Attempt) : Type 0 where
+  pub read : IsRead attempt.change (Some attempt.read)
   pub short : IsShort attempt.id
   pub new : FitsId attempt.id (new_doc attempt.change)
 

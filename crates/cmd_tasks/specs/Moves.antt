@@ -90,8 +90,8 @@ IsReady (Changing u read d) = IsUpdating u × KeepsLimits d
 IsReady (Seeking d progress) = IsDeletion d × (progress.shown < 10001) × AreShort progress.kept.items
 IsReady (Deleting d read id) = IsDeletion d × IsShort id
 IsReady (Paging many stand) = IsMany many × IsStand stand × (stand.is_whole ≡ false) × (stand.queue.items ≡ [])
-IsReady (Trying many stand attempt) = IsMany many × IsStand stand × (stand.matched < 20) × IsReadyTo attempt
-IsReady (Retrying many stand id) = IsMany many × IsStand stand × (stand.matched < 20) × IsShort id
+IsReady (Trying many stand attempt) = IsMany many × IsStand stand × (stand.matched < 20) × IsReadyTo attempt × (length stand.queue.items < 64)
+IsReady (Retrying many stand id) = IsMany many × IsStand stand × (stand.matched < 20) × IsShort id × (length stand.queue.items < 64)
 IsReady (Done reply) = ⊥
 
 -- updates are made as of this moment
