@@ -1,9 +1,13 @@
 -- How a command that takes many documents goes on from what is taken next, and what its reply tells.
-use Rattle.std.proofs.Common.{◌≡◌, ◌≢◌, ◌⊎◌, ℕ, ◌+◌, ◌*◌, ◌<◌, ◌≤◌, List, [], ◌∷◌, map, reverse, length, Bool, true, false, Option, Some, None, Result, Ok, Err, refl, sym, ap, ◌∙◌, subst, arith, inl, inr, ⊎_elim}
-use Rattle.std.specs.Prelude.{nat_lt, if◌then◌else◌}
+use Rattle.std.proofs.Common.{◌≡◌, ◌≢◌, ◌⊎◌, ℕ, ℤ, ◌+◌, ◌*◌, ◌<◌, ◌≤◌, List, [], ◌∷◌, map, reverse, length, Bool, true, false, Option, Some, None, Result, Ok, Err, refl, sym, ap, ◌∙◌, subst, arith, inl, inr, ⊎_elim}
+use Rattle.std.specs.Prelude.{nat_lt, if◌then◌else◌, IfOk, IfErr}
 use Rattle.std.proofs.lemmas.Bool.{lt-ltb, le-ltb}
 use Rattle.std.proofs.lemmas.List.{length-map, length-reverse}
+use Rattle.json_tree.specs.Tree.{Tree}
+use Rattle.json_tree.specs.Same.{same}
 use Rattle.shred_cols.specs.Row.{Version}
+use Rattle.update_ops.specs.Clauses.{Clause}
+use Rattle.update_ops.specs.Apply.{Gives, apply}
 use Rattle.update_ops.specs.declared.fault.UpdateFault.{UpdateFault}
 use Rattle.update_ops.specs.declared.fault.UpdateFault.TheVariants as faults
 use Rattle.view_sort.specs.declared.page.PageState.{PageState}
@@ -12,10 +16,12 @@ use Rattle.reply_env.specs.declared.reply.ErrorItem.{ErrorItem}
 use Rattle.reply_env.specs.declared.reply.SoFar.TheVariants as so_far
 use Rattle.reply_env.specs.declared.reply.Reply.{Reply}
 use Rattle.reply_env.specs.declared.reply.Reply.TheVariants.{UpdatedMany, DeletedMany, NoMemory}
+use Rattle.store_core.specs.declared.entry.Change.{Change}
+use Rattle.store_core.specs.declared.entry.Change.TheVariants.{Update}
 use Rattle.cmd_grammar.specs.Refused.{update_error}
 use Rattle.cmd_tasks.specs.Pages.{found_row}
 use Rattle.cmd_tasks.specs.Looking.{Refuses}
-use Rattle.cmd_tasks.specs.Doing.{Doing, updates, deletes, change_of}
+use Rattle.cmd_tasks.specs.Doing.{Doing, updates, deletes, update_to, change_of}
 use Rattle.cmd_tasks.specs.Taking.{Shown, Standing, Turn, looks_on, is_done, is_refused, take_with, turn, turn_of, turn_on}
 use Rattle.cmd_tasks.specs.Turns.{so_far_of, state_behind, done_reply, Ends}
 use Rattle.cmd_tasks.specs.Many.{doing_of, IsMany, IsStand, IsStanding, IsAttempted, pages_left, stand_left, tries_left}
@@ -28,6 +34,16 @@ use Rattle.cmd_tasks.specs.declared.work.Moved.{Moved}
 use Rattle.cmd_tasks.specs.declared.work.Moved.TheVariants as m
 use Rattle.cmd_tasks.specs.declared.taking.Settled.TheVariants as s
 use Rattle.cmd_tasks.specs.declared.trace.Item.{Item}
+
+-- ---- what updates write
+
+pub writes_another : (u : List Clause) (moment : ℤ) (d new : Tree) (o : Result (Option Change) UpdateFault) → apply u d moment false ≡ Ok new → same d new ≡ false → IfOk o (λ written. written ≡ Some (Update u moment new)) → IfErr o (λ fault. fault ≡ faults.NoMemory)
+    → Gives (λ (written : Option Change). written) o (update_to u moment d (apply u d moment false))
+writes_another u moment d new (Ok written) makes other ok err = ap (update_to u moment d) makes ∙ (ap (λ (b : Bool). Ok (if b then None else Some (Update u moment new))) other ∙ ap Ok (sym ok))
+writes_another u moment d new (Err fault) makes other ok err = inl err
+
+pub writes_nothing : (u : List Clause) (moment : ℤ) (d new : Tree) → apply u d moment false ≡ Ok new → same d new ≡ true → update_to u moment d (apply u d moment false) ≡ Ok None
+writes_nothing u moment d new makes unchanged = ap (update_to u moment d) makes ∙ ap (λ (b : Bool). Ok (if b then None else Some (Update u moment new))) unchanged
 
 -- ---- the same is told of the same counts
 
