@@ -446,6 +446,9 @@ class Inputs:
                 '{"findOne":{%s,"sort":{%s}}}' % (wanted, keys),
                 '{"updateOne":{%s,"sort":{%s},"update":{"$inc":{"n":1}}}}' % (wanted, keys),
                 '{"deleteOne":{"filter":{"_id":{"$lt":0}},"sort":{%s}}}' % keys,
+                '{"updateMany":{%s,"update":{"$inc":{"n":1}},"options":{"pageState":"%s"}}}' % (wanted, state),
+                '{"updateMany":{"filter":{"_id":{"$in":%s}},"update":{"$set":{"t":1}}}}' % self.rng.sample(range(10_000), 22),
+                '{"deleteMany":{"filter":{"_id":{"$in":%s}}}}' % self.rng.sample(range(10_000, 10_030), 25),
                 '{"find":{%s,"options":{"pageState":"%s"}}}' % (wanted, state),
                 '{"countDocuments":{%s}}' % wanted]))
         return lines
