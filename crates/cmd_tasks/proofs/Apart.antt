@@ -62,11 +62,11 @@ at_drop : {A : Type 0} (m : ℕ) (xs : List A) (y : A) (ys : List A) → drop m 
 at_drop zero [] y ys e = cc
 at_drop zero (x ∷ xs) y ys e = (first_is x xs e, rest_is x xs e)
   where
-    first_is : {B : Type 0} {b : B} {bs : List B} (a : B) (as : List B) → a ∷ as ≡ b ∷ bs → Some a ≡ Some b
-    first_is a as q = cc
+    first_is : {B : Type 0} {b : B} {bs : List B} (a : B) (more : List B) → a ∷ more ≡ b ∷ bs → Some a ≡ Some b
+    first_is a more q = cc
 
-    rest_is : {B : Type 0} {b : B} {bs : List B} (a : B) (as : List B) → a ∷ as ≡ b ∷ bs → as ≡ bs
-    rest_is a as q = cc
+    rest_is : {B : Type 0} {b : B} {bs : List B} (a : B) (more : List B) → a ∷ more ≡ b ∷ bs → more ≡ bs
+    rest_is a more q = cc
 at_drop (suc m) [] y ys e = cc
 at_drop (suc m) (x ∷ xs) y ys e = at_drop m xs y ys e
 
@@ -116,7 +116,8 @@ own_clear : (coll : Name) (k : ℕ) (id : Tree) (H : List Entry) (m : ℕ) (es :
 own_clear coll k id H m [] here h = refl
 own_clear coll k id H m (e ∷ es) here h =
     let there = at_drop m H e es here in
-    let next : drop (m + 1) H ≡ es = ap (λ (n : ℕ). drop n H) (omega arith) ∙ there.1 in
+    let one : m + 1 ≡ suc m = omega arith in
+    let next : drop (m + 1) H ≡ es = ap (λ (n : ℕ). drop n H) one ∙ there.1 in
     elim (is_work k e) as (λ b. is_work k e ≡ b → Each (IsClear coll id H) (cond b (m ∷ places k (m + 1) es) (places k (m + 1) es)) → list_any (is_own coll k id) (e ∷ es) ≡ false) [
       | true ↦ λ w c. let t : touches coll id e ≡ false = sym (ap (touches_in coll id) there.0) ∙ c.0 in λ j. (w j && t j) || own_clear coll k id H (m + 1) es next c.1 j
       | false ↦ λ w c. λ j. (w j && touches coll id e) || own_clear coll k id H (m + 1) es next c j

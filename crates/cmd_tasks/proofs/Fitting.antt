@@ -65,7 +65,7 @@ pub makes_so : (doing : Doing) (d : Tree) (change : Change) → change_of doing 
 makes_so (updates u moment) d change e = go (apply u d moment false) refl e
   where
     go : (r : Result Tree UpdateFault) → apply u d moment false ≡ r → update_to u moment d r ≡ Ok (Some change) → Makes change d
-    go (Ok new) is q = elim (same d new) as (λ b. Ok (if b then None else Some (Update u moment new)) ≡ Ok (Some change) → Makes change d) [
+    go (Ok new) is q = elim (same d new) as (λ b. ◌≡◌ {A = Result (Option Change) UpdateFault} (Ok (if b then None else Some (Update u moment new))) (Ok (Some change)) → Makes change d) [
       | true ↦ λ q. absurd (not_none change q)
       | false ↦ λ q. subst (λ (c : Change). Makes c d) (same_change (Update u moment new) change q) is
     ] q

@@ -36,7 +36,7 @@ use Rattle.cmd_tasks.proofs.Rounds.{stops_more}
 use Rattle.cmd_tasks.proofs.Waiting.{Waits, waits, is_waiting, waits_page, waits_settled}
 use Rattle.cmd_tasks.proofs.Following.{paging_turn, settled_again, Reads, reads, many_stopped, goes_leads}
 
-shown_back : (s : Sight) (xs : List Found) → map (λ t. t.x) (shown_with s xs) ≡ xs
+shown_back : (s : Sight) (xs : List Found) → map (λ (t : Shown). t.x) (shown_with s xs) ≡ xs
 shown_back s [] = refl
 shown_back s (x ∷ xs) = ap (λ (z : List Found). x ∷ z) (shown_back s xs)
 
@@ -112,7 +112,7 @@ module _ (base : Base) (coll : Name) (k : ℕ) (moment : ℤ) (many : Many) (sta
     standing_of new has = record {
       from = has.from_is ∙ sym sees.2;
       is_whole = has.whole_is ∙ ap is_none (sym sees.2);
-      queue = ap (λ (q : List Version). map found_row (reverse q)) has.queue_is ∙ (ap (map found_row) (reverse-reverse page.items) ∙ (sym sees.1 ∙ (sym (shown_back s (shown_by base coll f s)) ∙ ap (map (λ t. t.x)) (sym queue_is))));
+      queue = ap (λ (q : List Version). map found_row (reverse q)) has.queue_is ∙ (ap (map found_row) (reverse-reverse page.items) ∙ (sym sees.1 ∙ (sym (shown_back s (shown_by base coll f s)) ∙ ap (map (λ (t : Shown). t.x)) (sym queue_is))));
       lost = ap (λ (l : List Loss). reverse l) has.lost_is ∙ way.1.3.lost;
       matched = has.matched_is ∙ way.1.3.matched;
       modified = has.modified_is ∙ way.1.3.modified;

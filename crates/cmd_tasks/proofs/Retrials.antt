@@ -40,30 +40,30 @@ use Rattle.cmd_tasks.proofs.Waiting.{Waits, waits, is_waiting, waits_again, wait
 use Rattle.cmd_tasks.proofs.Following.{retrying_turn, settled_again, Reads, reads, many_stopped, goes_leads}
 
 -- what the item shows is the document, if it matches
-pairs_alone : (f : FilterTree) (id : Tree) (row : Option Version) → IfSome row (λ v. id_of v.doc ≡ id) → pairs_of (matching_row f row) ≡ map (λ x. (x.id, x.tx)) (matching f id row)
+pairs_alone : (f : FilterTree) (id : Tree) (row : Option Version) → IfSome row (λ v. id_of v.doc ≡ id) → pairs_of (matching_row f row) ≡ map (λ (x : Found). (x.id, x.tx)) (matching f id row)
 pairs_alone f id None h = refl
-pairs_alone f id (Some v) h = elim (matches f v.doc) as (λ b. pairs_of (if b then Some v else None) ≡ map (λ x. (x.id, x.tx)) (if b then record { id = id; tx = v.tx; doc = v.doc } ∷ [] else [])) [
+pairs_alone f id (Some v) h = elim (matches f v.doc) as (λ b. pairs_of (if b then Some v else None) ≡ map (λ (x : Found). (x.id, x.tx)) (if b then record { id = id; tx = v.tx; doc = v.doc } ∷ [] else [])) [
   | true ↦ ap (λ (i : Tree). (i, v.tx) ∷ []) h
   | false ↦ refl
 ]
 
-looks_alone : (id : Tree) (xs : List Found) (i : Item) (at : ℕ) (after up : Tree) (pairs : List (Tree × ℕ)) → IsLooked i at (Some after) (Some up) pairs → after ≡ id → up ≡ id → pairs ≡ map (λ x. (x.id, x.tx)) xs → LooksAlone id xs i
+looks_alone : (id : Tree) (xs : List Found) (i : Item) (at : ℕ) (after up : Tree) (pairs : List (Tree × ℕ)) → IsLooked i at (Some after) (Some up) pairs → after ≡ id → up ≡ id → pairs ≡ map (λ (x : Found). (x.id, x.tx)) xs → LooksAlone id xs i
 looks_alone id xs (Looked a from to page) at after up pairs is after_is up_is shows = (is.1 ∙ ap (λ (t : Tree). Some t) after_is, is.2 ∙ ap (λ (t : Tree). Some t) up_is, is.3 ∙ shows)
 looks_alone id xs (Wrote a) at after up pairs is after_is up_is shows = absurd is
 looks_alone id xs (Lost a read found) at after up pairs is after_is up_is shows = absurd is
-looks_alone id xs (Faulted a before n) at after up pairs is after_is up_is shows = absurd is
+looks_alone id xs (Faulted a low high) at after up pairs is after_is up_is shows = absurd is
 
 looked_entry : (H' : List Entry) (i : Item) (at : ℕ) (after up : Option Tree) (pairs : List (Tree × ℕ)) → IsLooked i at after up pairs → (sight H' i).entry ≡ None
 looked_entry H' (Looked a from to page) at after up pairs is = refl
 looked_entry H' (Wrote a) at after up pairs is = absurd is
 looked_entry H' (Lost a read found) at after up pairs is = absurd is
-looked_entry H' (Faulted a before n) at after up pairs is = absurd is
+looked_entry H' (Faulted a low high) at after up pairs is = absurd is
 
 looked_past : (H H' : List Entry) (i : Item) (at : ℕ) (after up : Option Tree) (pairs : List (Tree × ℕ)) → IsLooked i at after up pairs → H' ≡ H → at ≡ length H → (sight H' i).past ≡ H
 looked_past H H' (Looked a from to page) at after up pairs is same here = saw H H' a same (is.0 ∙ here)
 looked_past H H' (Wrote a) at after up pairs is same here = absurd is
 looked_past H H' (Lost a read found) at after up pairs is same here = absurd is
-looked_past H H' (Faulted a before n) at after up pairs is same here = absurd is
+looked_past H H' (Faulted a low high) at after up pairs is same here = absurd is
 
 module _ (base : Base) (coll : Name) (k : ℕ) (moment : ℤ) (many : Many) (stand : Stand) (id : Tree) (may : MayPage many.doing many.page.value) (few : length stand.lost.items < 4) (H H' : List Entry) (earlier : List Sight)
     (way : IsUnderWay base coll k moment (Retrying many stand id) earlier) where
@@ -120,7 +120,7 @@ module _ (base : Base) (coll : Name) (k : ℕ) (moment : ℤ) (many : Many) (sta
     alone = (
       subst (λ (l : List Entry). Lives coll (replay base l)) (sym past) lives,
       looks_alone first.x.id (shown_alone base coll f first.x.id s) item at after up (pairs_of (matching_row f row)) shows (after_is ∙ sym is.id_is) (up_is ∙ sym is.id_is)
-          (pairs_alone f first.x.id row keyed_first ∙ ap (map (λ x. (x.id, x.tx))) (sym shown_is)),
+          (pairs_alone f first.x.id row keyed_first ∙ ap (map (λ (x : Found). (x.id, x.tx))) (sym shown_is)),
     )
 
     part : IsPartOf base coll k moment c (s ∷ earlier)
@@ -133,7 +133,7 @@ module _ (base : Base) (coll : Name) (k : ℕ) (moment : ℤ) (many : Many) (sta
     looked (Looked a from to page) h = refl
     looked (Wrote a) h = absurd h
     looked (Lost a read found) h = absurd h
-    looked (Faulted a before n) h = absurd h
+    looked (Faulted a low high) h = absurd h
 
     stands : stands_at base coll k moment many (s ∷ earlier) ≡ settle doing (retaken row)
     stands = looked item shows
@@ -224,6 +224,6 @@ module _ (base : Base) (coll : Name) (k : ℕ) (moment : ℤ) (many : Many) (sta
   look_failed at low high (m.Goes i w) told longer here failed t = absurd failed
   look_failed at low high (m.Ends i r) (m.Goes j w) longer here failed t = absurd t
   look_failed at low high (m.Ends i r) (m.Ends j r') longer here failed t = subst (λ (z : Item). Serves base coll k moment c (sight H' z ∷ earlier) r') (sym (t.0 ∙ failed.0))
-      (stops (Faulted at low high) (errors.store_fault low high) r' (failed_stops base coll k _ _ H H' at low high longer here) (t.1 (errors.store_fault low high) failed.1))
+      (stops (Faulted at low high) (errors.store_fault low high) r' (failed_stops base coll k (Marks base coll k moment c earlier) (IsToWrite base coll k moment c earlier) H H' at low high longer here) (t.1 (errors.store_fault low high) failed.1))
   look_failed at low high (m.Ends i r) m.NoMemory longer here failed t = absurd t
   look_failed at low high m.NoMemory told longer here failed t = absurd failed

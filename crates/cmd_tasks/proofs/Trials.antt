@@ -237,6 +237,6 @@ module _ (base : Base) (coll : Name) (k : ℕ) (moment : ℤ) (many : Many) (sta
   try_failed H' at low high (m.Goes i w) told longer here failed t = absurd failed
   try_failed H' at low high (m.Ends i r) (m.Goes j w) longer here failed t = absurd t
   try_failed H' at low high (m.Ends i r) (m.Ends j r') longer here failed t = subst (λ (z : Item). Serves base coll k moment c (sight H' z ∷ earlier) r') (sym (t.0 ∙ failed.0))
-      (stops H' (Faulted at low high) (errors.store_fault low high) r' (failed_stops base coll k _ _ H H' at low high longer here) (t.1 (errors.store_fault low high) failed.1))
+      (stops H' (Faulted at low high) (errors.store_fault low high) r' (failed_stops base coll k (Marks base coll k moment c earlier) (IsToWrite base coll k moment c earlier) H H' at low high longer here) (t.1 (errors.store_fault low high) failed.1))
   try_failed H' at low high (m.Ends i r) m.NoMemory longer here failed t = absurd t
   try_failed H' at low high m.NoMemory told longer here failed t = absurd failed

@@ -178,7 +178,7 @@ module _ (base : Base) (coll : Name) where
     seen_inside rs from (Lost at read x) r l = absurd l
     seen_inside rs from (Faulted at before n) r l = absurd l
 
-    rows_or : Option Rows → Rows
+    abbrev rows_or : Option Rows → Rows
     rows_or o = elim o as (λ _. Rows) [ None ↦ [] | Some x ↦ x ]
 
     -- the page's end lies behind where it began
