@@ -209,21 +209,25 @@ pub(crate) fn told_after(doing: &Doing, stand: &Stand, reply: Reply) -> Reply
     }
 }
 
-/// The page state behind the last document that was counted.
-fn state_behind(alloc: Global, given: u64, stand: Stand) -> Result<Option<Text>, ViewFault>
-    requires { (given < 2 ^ 63) × (stand.matched ≤ 20) }
-    ensures { IfOk result (λ state. state ≡ option_map (state_text (min (given + stand.matched) (2 ^ 63 - 1))) stand.last) }
+/// The page state behind the last document, where so many were counted by this page.
+fn state_behind(
+    alloc: Global,
+    given: u64,
+    matched: u64,
+    last: Option<DocId>,
+) -> Result<Option<Text>, ViewFault>
+    requires { (given < 2 ^ 63) × (matched ≤ 20) }
+    ensures { IfOk result (λ state. state ≡ option_map (state_text (min (given + matched) (2 ^ 63 - 1))) last) }
 {
-    match stand.last {
-        Some(last) => {
-            let page = PageState {
-                given: (given + stand.matched).min(i64::MAX as u64),
-                last,
-            };
-            Ok(Some(page.print(alloc)?))
-        }
-        None => Ok(None),
-    }
+    let Some(last) = last else {
+        return Ok(None);
+    };
+    let page = PageState {
+        given: (given + matched).min(i64::MAX as u64),
+        last,
+    };
+    let text = page.print(alloc)?;
+    Ok(Some(text))
 }
 
 /// The reply where many were updated and no more match, or some do.
@@ -231,7 +235,15 @@ fn updated_many(alloc: Global, given: u64, stand: Stand, more: bool) -> Reply
     requires { (given < 2 ^ 63) × (stand.matched ≤ 20) }
     ensures { (page : Option Page) → given_of page ≡ given → (result ≡ replies.UpdatedMany stand.matched stand.modified (text_behind page (tally stand) more)) ⊎ (result ≡ replies.NoMemory stand.modified) }
 {
-    let (matched, modified) = (stand.matched, stand.modified);
+    let Stand {
+        from: _,
+        is_whole: _,
+        queue: _,
+        lost: _,
+        matched,
+        modified,
+        last,
+    } = stand;
     if !more {
         return Reply::UpdatedMany {
             matched,
@@ -239,7 +251,7 @@ fn updated_many(alloc: Global, given: u64, stand: Stand, more: bool) -> Reply
             state: None,
         };
     }
-    match state_behind(alloc, given, stand) {
+    match state_behind(alloc, given, matched, last) {
         Ok(state) => Reply::UpdatedMany {
             matched,
             modified,
@@ -269,17 +281,29 @@ fn untaken(alloc: Global, item: Item, many: Many, stand: Stand) -> Moved
     ensures told { (st : Standing) → Settles (doing_of many.doing) st (Settled.Untaken stand) → GoesOnFrom many item st result }
     ensures ready { GoesReady many item stand result }
 {
-    let more = !stand.queue.is_empty();
-    if more || stand.is_whole {
-        return Moved::Ends {
-            item,
-            reply: done(alloc, many, stand, more),
-        };
+    if !stand.queue.is_empty() {
+        let reply = done(alloc, many, stand, true);
+        return Moved::Ends { item, reply };
+    }
+    if stand.is_whole {
+        let reply = done(alloc, many, stand, false);
+        return Moved::Ends { item, reply };
     }
     Moved::Goes {
         item,
         state: State::Paging { many, stand },
     }
+}
+
+/// The change of the document that was to be taken is refused.
+fn refused(alloc: Global, item: Item, many: Many, stand: Stand, fault: UpdateFault) -> Moved
+    ensures told { (st : Standing) → Settles (doing_of many.doing) st (Settled.Refused stand fault) → GoesOnFrom many item st result }
+    ensures ready { (begun : Stand) → GoesReady many item begun result }
+{
+    let reply = told_after(&many.doing, &stand, declined(alloc, fault));
+    drop(many);
+    drop(stand);
+    Moved::Ends { item, reply }
 }
 
 /// Goes on behind an item, as far as nothing is to be asked of the store.
@@ -299,9 +323,6 @@ pub(crate) fn go_on(alloc: Global, item: Item, many: Many, stand: Stand) -> Move
             },
         },
         Settled::Untaken { stand } => untaken(alloc, item, many, stand),
-        Settled::Refused { stand, fault } => Moved::Ends {
-            item,
-            reply: told_after(&many.doing, &stand, declined(alloc, fault)),
-        },
+        Settled::Refused { stand, fault } => refused(alloc, item, many, stand, fault),
     }
 }
