@@ -3,8 +3,8 @@ use Rattle.cmd_tasks.proofs.Leavings.{page_stand, page_steps}
 use Rattle.cmd_tasks.proofs.Pagings.{page_leads, page_stopped}
 use Rattle.cmd_tasks.proofs.many.list_more.Goals as goal
 
-pub glance-requires-wanted : goal.glance-requires-wanted
-glance-requires-wanted g c = c.requires.ready.0.wanted
+pub glance-requires-clause-wanted : goal.glance-requires-clause-wanted
+glance-requires-clause-wanted g c = c.requires.ready.0.wanted
 
 pub go_on-requires-clause-many : goal.go_on-requires-clause-many
 go_on-requires-clause-many g c = c.requires.ready.0
