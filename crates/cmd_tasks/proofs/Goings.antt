@@ -1,5 +1,5 @@
 -- How a command that takes many documents goes on from what is taken next, and what its reply tells.
-use Rattle.std.proofs.Common.{◌≡◌, ◌≢◌, ◌⊎◌, ℕ, ℤ, ◌+◌, ◌*◌, ◌<◌, ◌≤◌, List, [], ◌∷◌, map, reverse, length, Bool, true, false, Option, Some, None, Result, Ok, Err, refl, sym, ap, ◌∙◌, subst, arith, inl, inr, ⊎_elim}
+use Rattle.std.proofs.Common.{◌≡◌, ◌≢◌, ◌⊎◌, ℕ, ℤ, ◌<◌, ◌≤◌, List, [], ◌∷◌, map, reverse, length, Bool, true, false, Option, Some, None, Result, Ok, Err, refl, sym, ap, ◌∙◌, subst, arith, inl, inr, ⊎_elim}
 use Rattle.std.specs.Prelude.{nat_lt, if◌then◌else◌, IfOk, IfErr}
 use Rattle.std.proofs.lemmas.Bool.{lt-ltb, le-ltb}
 use Rattle.std.proofs.lemmas.List.{length-map, length-reverse}
@@ -22,15 +22,13 @@ use Rattle.cmd_grammar.specs.Refused.{update_error}
 use Rattle.cmd_tasks.specs.Pages.{found_row}
 use Rattle.cmd_tasks.specs.Looking.{Refuses}
 use Rattle.cmd_tasks.specs.Doing.{Doing, updates, deletes, update_to, change_of}
-use Rattle.cmd_tasks.specs.Taking.{Shown, Standing, Turn, looks_on, is_done, is_refused, take_with, turn, turn_of, turn_on}
+use Rattle.cmd_tasks.specs.Taking.{Shown, Standing, Turn, is_done, is_refused, take_with, turn, turn_of, turn_on}
 use Rattle.cmd_tasks.specs.Turns.{so_far_of, state_behind, done_reply, Ends}
-use Rattle.cmd_tasks.specs.Many.{doing_of, IsMany, IsStand, IsStanding, IsAttempted, pages_left, stand_left, tries_left}
-use Rattle.cmd_tasks.specs.Going.{Settles, SettlesReady, IsRefused, tally, GoesOnFrom, GoesReady, RefusesAfter, waiting_left, unsettled_left}
+use Rattle.cmd_tasks.specs.Many.{doing_of, IsStanding}
+use Rattle.cmd_tasks.specs.Going.{Settles, IsRefused, tally, GoesOnFrom, RefusesAfter}
 use Rattle.cmd_tasks.specs.declared.work.Many as declared_many
 use Rattle.cmd_tasks.specs.declared.work.Stand.{Stand}
-use Rattle.cmd_tasks.specs.declared.work.Attempt.{Attempt}
-use Rattle.cmd_tasks.specs.declared.work.State.TheVariants.{Paging, Trying}
-use Rattle.cmd_tasks.specs.declared.work.Moved.{Moved}
+use Rattle.cmd_tasks.specs.declared.work.State.TheVariants.{Paging}
 use Rattle.cmd_tasks.specs.declared.work.Moved.TheVariants as m
 use Rattle.cmd_tasks.specs.declared.taking.Settled.TheVariants as s
 use Rattle.cmd_tasks.specs.declared.trace.Item.{Item}
@@ -64,9 +62,6 @@ done_same deletes page a b more e f g = λ i. DeletedMany (f i) more
 first_turn : (doing : Doing) (st : Standing) (q : List Shown) → st.again ≡ false → st.queue ≡ q → turn doing st ≡ turn_on doing q st
 first_turn doing st q first e = ap (λ (b : Bool). turn_of b doing st) first ∙ ap (λ (l : List Shown). turn_on doing l st) e
 
-turn_whole : (doing : Doing) (st : Standing) → st.again ≡ false → st.queue ≡ [] → st.is_whole ≡ true → turn doing st ≡ is_done false
-turn_whole doing st first e whole = first_turn doing st [] first e ∙ ap (λ (b : Bool). if b then is_done false else looks_on st.from) whole
-
 turn_full : (doing : Doing) (st : Standing) (t : Shown) (rest : List Shown) → st.again ≡ false → st.queue ≡ t ∷ rest → 20 ≤ st.matched → turn doing st ≡ is_done true
 turn_full doing st t rest first e full = first_turn doing st (t ∷ rest) first e ∙ ap (λ (b : Bool). if b then take_with t (change_of doing t.x.doc) else is_done true) (le-ltb st.matched 20 full)
 
@@ -86,10 +81,13 @@ none_of (x ∷ xs) e = absurd (omega arith)
 -- the command is done, with no more that match or with some
 ends_with : (many : declared_many.Many) (item : Item) (stand : Stand) (st : Standing) (more : Bool) (reply : Reply) → turn (doing_of many.doing) st ≡ is_done more → IsStanding stand st st.queue
     → (reply ≡ done_reply (doing_of many.doing) many.page.value (tally stand) more) ⊎ (reply ≡ NoMemory stand.modified) → GoesOnFrom many item st (m.Ends item reply)
-ends_with many item stand st more reply is h told = (refl, ⊎_elim
-    (λ (e : reply ≡ done_reply (doing_of many.doing) many.page.value (tally stand) more). inl (subst (λ (z : Turn). Ends (doing_of many.doing) many.page.value st z reply) (sym is) (e ∙ done_same (doing_of many.doing) many.page.value (tally stand) st more h.matched h.modified h.last)))
-    (λ (e : reply ≡ NoMemory stand.modified). inr (e ∙ ap (λ (n : ℕ). NoMemory n) h.modified))
-    told)
+ends_with many item stand st more reply is h told = (
+  refl,
+  ⊎_elim
+      (λ (e : reply ≡ done_reply (doing_of many.doing) many.page.value (tally stand) more). inl (subst (λ (z : Turn). Ends (doing_of many.doing) many.page.value st z reply) (sym is) (e ∙ done_same (doing_of many.doing) many.page.value (tally stand) st more h.matched h.modified h.last)))
+      (λ (e : reply ≡ NoMemory stand.modified). inr (e ∙ ap (λ (n : ℕ). NoMemory n) h.modified))
+      told,
+)
 
 -- some wait, so as many are counted as may be
 pub more_ends : (many : declared_many.Many) (item : Item) (stand : Stand) (reply : Reply) → 0 < length stand.queue.items → ((reply ≡ done_reply (doing_of many.doing) many.page.value (tally stand) true) ⊎ (reply ≡ NoMemory stand.modified))
@@ -103,34 +101,11 @@ more_ends many item stand reply some told st h = go st.queue refl
 empty_waiting : (stand : Stand) (st : Standing) → length stand.queue.items ≡ 0 → IsStanding stand st st.queue → st.queue ≡ []
 empty_waiting stand st none h = none_of st.queue (sym (as_many stand.queue.items st.queue h.queue) ∙ none)
 
--- none wait, and the listing is whole
-pub whole_ends : (many : declared_many.Many) (item : Item) (stand : Stand) (reply : Reply) → length stand.queue.items ≡ 0 → stand.is_whole ≡ true → ((reply ≡ done_reply (doing_of many.doing) many.page.value (tally stand) false) ⊎ (reply ≡ NoMemory stand.modified))
-    → (st : Standing) → Settles (doing_of many.doing) st (s.Untaken stand) → GoesOnFrom many item st (m.Ends item reply)
-whole_ends many item stand reply none whole told st h =
-    ends_with many item stand st false reply (turn_whole (doing_of many.doing) st h.1 (empty_waiting stand st none h.0) (sym h.0.is_whole ∙ whole)) h.0 told
-
 -- none wait, and there is more to list
 pub lists_on : (many : declared_many.Many) (item : Item) (stand : Stand) → length stand.queue.items ≡ 0 → stand.is_whole ≡ false → (st : Standing) → Settles (doing_of many.doing) st (s.Untaken stand) → GoesOnFrom many item st (m.Goes item (Paging many stand))
 lists_on many item stand none more st h =
     let empty = empty_waiting stand st none h.0 in
     (refl, (refl, empty, sym h.0.is_whole ∙ more, subst (λ (q : List Shown). IsStanding stand st q) empty h.0))
-
-pub lists_ready : (many : declared_many.Many) (item : Item) (stand : Stand) → IsMany many → IsStand stand → length stand.queue.items ≡ 0 → stand.is_whole ≡ false → GoesReady many item stand (m.Goes item (Paging many stand))
-lists_ready many item stand ready h none more = (refl, refl, (ready, h, more, none_of stand.queue.items none), (let e = none in omega arith))
-
--- ---- an attempt is made next
-
-pub tries : (many : declared_many.Many) (item : Item) (stand : Stand) (attempt : Attempt) (st : Standing) → Settles (doing_of many.doing) st (s.Taken stand attempt) → GoesOnFrom many item st (m.Goes item (Trying many stand attempt))
-tries many item stand attempt st h = (refl, (refl, h.0, h.1))
-
-pub tries_ready : (many : declared_many.Many) (item : Item) (begun stand : Stand) (attempt : Attempt) → IsMany many → SettlesReady begun (s.Taken stand attempt) → GoesReady many item begun (m.Goes item (Trying many stand attempt))
-tries_ready many item begun stand attempt ready h = (refl, refl, (ready, h.0, h.1, h.2), h.3)
-
--- what is ready behind less is ready
-pub ready_from : (many : declared_many.Many) (item : Item) (begun stand : Stand) (o : Moved) → unsettled_left stand ≤ unsettled_left begun → GoesReady many item stand o → GoesReady many item begun o
-ready_from many item begun stand (m.Goes i w) less h = (h.0, h.1, h.2, (let a = h.3 in omega arith))
-ready_from many item begun stand (m.Ends i reply) less h = h
-ready_from many item begun stand m.NoMemory less h = h
 
 -- ---- its change is refused
 
@@ -150,13 +125,16 @@ TellsRefusals doing stand from reply = (st : Standing) (error : ErrorItem) → s
 
 pub refused_ends : (many : declared_many.Many) (item : Item) (stand : Stand) (fault : UpdateFault) (from reply : Reply) → (fault ≡ faults.NoMemory → from ≡ NoMemory 0) → (fault ≢ faults.NoMemory → Refuses (update_error fault) from)
     → TellsRefusals (doing_of many.doing) stand from reply → ((n : ℕ) → from ≡ NoMemory n → reply ≡ NoMemory stand.modified) → (st : Standing) → Settles (doing_of many.doing) st (s.Refused stand fault) → GoesOnFrom many item st (m.Ends item reply)
-refused_ends many item stand fault from reply cut told tells cuts st h = (refl, ⊎_elim
-    (λ (none : (fault ≡ faults.NoMemory) × (stand.modified ≡ st.modified)). inr (cuts 0 (cut none.0) ∙ ap (λ (n : ℕ). NoMemory n) none.1))
-    (λ (no : IsRefused (doing_of many.doing) stand fault st). ⊎_elim
-    (λ (none : fault ≡ faults.NoMemory). inr (cuts 0 (cut none) ∙ ap (λ (n : ℕ). NoMemory n) no.stands.modified))
-    (λ (some : fault ≢ faults.NoMemory). ⊎_elim
-    (λ (after : IsRefusalAfter (so_far_of (doing_of many.doing) st) (update_error fault) reply). inl (subst (λ (z : Turn). Ends (doing_of many.doing) many.page.value st z reply) (sym (turn_refused (doing_of many.doing) st stand fault no)) after))
-    (λ (none : reply ≡ NoMemory st.modified). inr none)
-    (tells st (update_error fault) no.stands.matched no.stands.modified (told some)))
-    (cases_fault fault))
-    h)
+refused_ends many item stand fault from reply cut told tells cuts st h = (
+  refl,
+  ⊎_elim
+      (λ (none : (fault ≡ faults.NoMemory) × (stand.modified ≡ st.modified)). inr (cuts 0 (cut none.0) ∙ ap (λ (n : ℕ). NoMemory n) none.1))
+      (λ (no : IsRefused (doing_of many.doing) stand fault st). ⊎_elim
+      (λ (none : fault ≡ faults.NoMemory). inr (cuts 0 (cut none) ∙ ap (λ (n : ℕ). NoMemory n) no.stands.modified))
+      (λ (some : fault ≢ faults.NoMemory). ⊎_elim
+      (λ (after : IsRefusalAfter (so_far_of (doing_of many.doing) st) (update_error fault) reply). inl (subst (λ (z : Turn). Ends (doing_of many.doing) many.page.value st z reply) (sym (turn_refused (doing_of many.doing) st stand fault no)) after))
+      (λ (none : reply ≡ NoMemory st.modified). inr none)
+      (tells st (update_error fault) no.stands.matched no.stands.modified (told some)))
+      (cases_fault fault))
+      h,
+)

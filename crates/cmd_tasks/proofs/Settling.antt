@@ -1,5 +1,5 @@
 -- What waits is settled: documents that would stay as they are are counted, up to the first that wouldn't.
-use Rattle.std.proofs.Common.{◌≡◌, ℕ, ◌+◌, ◌*◌, ◌<◌, ◌≤◌, List, [], ◌∷◌, ◌++◌, map, reverse, length, Bool, true, false, Option, Some, None, Result, Ok, Err, refl, sym, ap, ◌∙◌, subst, arith, inl, inr, ⊎_elim, length-append, Vec, Global}
+use Rattle.std.proofs.Common.{◌≡◌, ℕ, ◌+◌, ◌*◌, ◌<◌, ◌≤◌, List, [], ◌∷◌, ◌++◌, map, reverse, length, Bool, true, false, Some, None, Ok, Err, refl, sym, ap, ◌∙◌, subst, arith, inl, inr, ⊎_elim, length-append, Vec, Global}
 use Rattle.std.specs.Prelude.{◌&&◌, nat_lt, if◌then◌else◌}
 use Rattle.std.proofs.lemmas.Bool.{lt-ltb, le-ltb, and_from, and_left, and_right}
 use Rattle.std.proofs.lemmas.List.{reverse-append}
@@ -19,7 +19,6 @@ use Rattle.cmd_tasks.specs.Going.{IsCounted, Meets, Settles, SettlesReady, waiti
 use Rattle.cmd_tasks.specs.declared.work.Stand.{Stand}
 use Rattle.cmd_tasks.specs.declared.work.Attempt.{Attempt}
 use Rattle.cmd_tasks.specs.declared.taking.Met.TheVariants as met
-use Rattle.cmd_tasks.specs.declared.taking.Settled.{Settled}
 use Rattle.cmd_tasks.specs.declared.taking.Settled.TheVariants as s
 
 -- ---- the first that waits
@@ -74,6 +73,9 @@ first_stand stand left v h is = record {
   short = (short_parts left.items v (subst AreShort is h.short)).0;
   lost = h.lost;
 }
+
+fewer_wait : (stand : Stand) (left : Vec Version Global) (v : Version) → IsStand stand → stand.queue.items ≡ left.items ++ v ∷ [] → length left.items < 64
+fewer_wait stand left v h is = let e = ap length is in let m = length-append left.items (v ∷ []) in let w = h.waiting in omega arith
 
 -- ---- one more is counted
 
@@ -254,7 +256,7 @@ module _ (doing : Doing) (begun stand : Stand) (h : Settling doing begun stand) 
     }
 
     pub takes_ready : (attempt : Attempt) → stand.matched < 20 → Meets doing v (met.Changed attempt) → SettlesReady begun (s.Taken (without_first stand left) attempt)
-    takes_ready attempt few meets = (first_stand stand left v h.ready is, few, meets.3, (let a = takes_left stand left v is in let b = h.left in omega arith))
+    takes_ready attempt few meets = (first_stand stand left v h.ready is, few, meets.3, fewer_wait stand left v h.ready is, (let a = takes_left stand left v is in let b = h.left in omega arith))
 
   -- nothing waits, or as many are counted as may be
   pub ends_empty : (left : Vec Version Global) → stand.queue.items ≡ [] → left.items ≡ [] → (st : Standing) → IsStanding begun st st.queue → st.again ≡ false → Settles doing (settle doing st) (s.Untaken (without_first stand left))
@@ -262,13 +264,14 @@ module _ (doing : Doing) (begun stand : Stand) (h : Settling doing begun stand) 
       let r = h.reaches st stands first in
       let empty = none_waits stand.queue.items r.now.queue none r.stands.queue in
       subst (λ (z : Standing). Settles doing z (s.Untaken (without_first stand left))) (sym (stops_empty doing r.now empty) ∙ r.same)
-          (record { from = r.stands.from; is_whole = r.stands.is_whole; queue = ap (λ (l : List Version). map found_row (reverse l)) (still ∙ sym none) ∙ r.stands.queue; lost = r.stands.lost; matched = r.stands.matched; modified = r.stands.modified; last = r.stands.last }, r.first_time, inl empty)
+      (record { from = r.stands.from; is_whole = r.stands.is_whole; queue = ap (λ (l : List Version). map found_row (reverse l)) (still ∙ sym none) ∙ r.stands.queue; lost = r.stands.lost; matched = r.stands.matched; modified = r.stands.modified; last = r.stands.last }, r.first_time, inl empty)
 
   pub empty_ready : (left : Vec Version Global) → stand.queue.items ≡ [] → left.items ≡ [] → SettlesReady begun (s.Untaken (without_first stand left))
   empty_ready left none still =
-      let same : left.items ≡ stand.queue.items = still ∙ sym none in
-      (record { few = h.ready.few; changed = h.ready.changed; waiting = (let e = ap length same in let w = h.ready.waiting in omega arith); short = subst AreShort (sym same) h.ready.short; lost = h.ready.lost },
-      (let e = ap (λ (l : List Version). waiting_left l (tries_left stand)) same in let b = h.left in omega arith))
+      let same : left.items ≡ stand.queue.items = still ∙ sym none in (
+        record { few = h.ready.few; changed = h.ready.changed; waiting = (let e = ap length same in let w = h.ready.waiting in omega arith); short = subst AreShort (sym same) h.ready.short; lost = h.ready.lost },
+        (let e = ap (λ (l : List Version). waiting_left l (tries_left stand)) same in let b = h.left in omega arith),
+      )
 
   pub ends_full : 20 ≤ stand.matched → (st : Standing) → IsStanding begun st st.queue → st.again ≡ false → Settles doing (settle doing st) (s.Untaken stand)
   ends_full full st stands first =

@@ -6,7 +6,6 @@ use Rattle.shred_cols.specs.Row.{Version, id_of}
 use Rattle.col_keeper.specs.Tables.{Name}
 use Rattle.filter_tree.specs.View.{filter_tree}
 use Rattle.reply_env.specs.Messages as errors
-use Rattle.reply_env.specs.declared.reply.Reply.{Reply}
 use Rattle.reply_env.specs.declared.reply.Reply.TheVariants.{Deleted, NoMemory}
 use Rattle.reply_env.specs.declared.update_errors.Loss.{Loss}
 use Rattle.store_core.specs.State.{State as Base}

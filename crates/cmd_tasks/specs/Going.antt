@@ -1,5 +1,5 @@
 -- How a command that takes many documents goes on behind an item, as far as nothing is asked of the store.
-use Rattle.std.specs.Prelude.{◌≡◌, ◌⊎◌, ℕ, ◌+◌, ◌-◌, ◌*◌, ◌<◌, ◌≤◌, List, [], ◌∷◌, length, false, Option, Some, None, ⊤, Ok, Err}
+use Rattle.std.specs.Prelude.{◌≡◌, ◌⊎◌, ℕ, ◌+◌, ◌*◌, ◌<◌, ◌≤◌, List, [], ◌∷◌, length, false, Some, None, ⊤, Ok, Err}
 use Rattle.json_tree.specs.Tree.{Tree}
 use Rattle.shred_cols.specs.Row.{Version, id_of}
 use Rattle.reply_env.specs.Reply.{IsRefusalAfter}
@@ -72,7 +72,7 @@ unsettled_left stand = pages_left stand.is_whole stand.from + waiting_left stand
 
 -- what is kept by itself of what is taken next, and that no more is left
 abbrev pub SettlesReady : Stand → Settled → Type 0
-SettlesReady begun (settled.Taken stand attempt) = IsStand stand × (stand.matched < 20) × IsReadyTo attempt × (stand_left stand + tries_left stand ≤ unsettled_left begun)
+SettlesReady begun (settled.Taken stand attempt) = IsStand stand × (stand.matched < 20) × IsReadyTo attempt × (length stand.queue.items < 64) × (stand_left stand + tries_left stand ≤ unsettled_left begun)
 SettlesReady begun (settled.Untaken stand) = IsStand stand × (unsettled_left stand ≤ unsettled_left begun)
 SettlesReady begun (settled.Refused stand fault) = ⊤
 

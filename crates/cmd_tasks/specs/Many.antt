@@ -1,11 +1,9 @@
 -- Commands that take many documents: what their states keep by themselves, and what they keep of the sights.
-use Rattle.std.specs.Prelude.{◌≡◌, ℕ, ◌+◌, ◌-◌, ◌*◌, ◌<◌, ◌≤◌, List, [], ◌∷◌, length, map, reverse, Bool, true, false, Option, Some, None, ⊤, Result, Ok, IfSome}
+use Rattle.std.specs.Prelude.{◌≡◌, ℕ, ◌+◌, ◌-◌, ◌*◌, ◌<◌, ◌≤◌, List, [], ◌∷◌, length, map, reverse, Bool, true, false, Option, Some, None, ⊤, Ok}
 use Rattle.std.specs.List.{AllByRecursion, list_any}
-use Rattle.std.specs.Option.{option_map}
 use Rattle.std.specs.Ordering.{is_lt}
 use Rattle.json_tree.specs.Tree.{Tree}
 use Rattle.json_tree.specs.Id.{id_cmp}
-use Rattle.shred_cols.specs.Row.{Version}
 use Rattle.col_keeper.specs.Tables.{Name, IsShort}
 use Rattle.filter_tree.specs.Filters.{FilterTree}
 use Rattle.filter_tree.specs.View.{filter_tree}
@@ -16,7 +14,7 @@ use Rattle.store_core.specs.Numbers.{touches}
 use Rattle.store_core.specs.Tries.{IsRead}
 use Rattle.cmd_grammar.specs.Commands.{CommandTree, update_many, delete_many, IsAskablePage}
 use Rattle.cmd_tasks.specs.Rank.{rank_of}
-use Rattle.cmd_tasks.specs.Trace.{Sight, Found, now, up_to}
+use Rattle.cmd_tasks.specs.Trace.{Sight, now, up_to}
 use Rattle.cmd_tasks.specs.Searches.{stored}
 use Rattle.cmd_tasks.specs.Part.{given_of}
 use Rattle.cmd_tasks.specs.Pages.{found_row}
@@ -24,7 +22,7 @@ use Rattle.cmd_tasks.specs.Wanted.{IsWanted}
 use Rattle.cmd_tasks.specs.Looking.{AreShort}
 use Rattle.cmd_tasks.specs.Attempts.{IsOneOf}
 use Rattle.cmd_tasks.specs.Doing.{Doing, updates, deletes, change_of}
-use Rattle.cmd_tasks.specs.Taking.{Shown, Standing, standing}
+use Rattle.cmd_tasks.specs.Taking.{Shown, Standing}
 use Rattle.cmd_tasks.specs.declared.work.Doing as declared_doing
 use Rattle.cmd_tasks.specs.declared.work.Doing.TheVariants as d
 use Rattle.cmd_tasks.specs.declared.work.Many as declared_many

@@ -18,7 +18,7 @@ use Rattle.store_core.specs.State.{State as Base, version}
 use Rattle.store_core.specs.Journal.{IsMadeOfRead}
 use Rattle.store_core.specs.declared.entry.Change.TheVariants.{Update}
 use Rattle.store_core.specs.declared.entry.Entry.{Entry}
-use Rattle.cmd_grammar.specs.Commands.{CommandTree, Paging as PageOf, insert_one, find_one, find, count_documents, update_one, delete_one, IsStorable, IsAskablePaging}
+use Rattle.cmd_grammar.specs.Commands.{CommandTree, Paging as PageOf, insert_one, find_one, find, count_documents, update_one, IsStorable, IsAskablePaging}
 use Rattle.cmd_tasks.specs.Rank.{rank_of}
 use Rattle.cmd_tasks.specs.Trace.{Sight, sight, Found, shown, next_from}
 use Rattle.cmd_tasks.specs.Served.{IsPartOf, IsOpen, Serves, TellsFound, TellsListed, TellsUnwritten, MakesAnother, counted, sights, chosen, round, losses}

@@ -30,8 +30,8 @@ use Rattle.cmd_tasks.specs.Trace.{Sight, sight, Found, now, shown, GoesOn, IsLoo
 use Rattle.cmd_tasks.specs.Searches.{bound, is_too_many, in_order, first_of}
 use Rattle.cmd_tasks.specs.Part.{from_of, keep_of, part_of, state_after}
 use Rattle.cmd_tasks.specs.Attempts.{WroteChange, IsAttempt}
-use Rattle.cmd_tasks.specs.Doing.{Doing, updates, deletes}
-use Rattle.cmd_tasks.specs.Taking.{Standing, standing, Turn, turn}
+use Rattle.cmd_tasks.specs.Doing.{updates, deletes}
+use Rattle.cmd_tasks.specs.Taking.{Standing, standing, turn}
 use Rattle.cmd_tasks.specs.Turns.{IsOn, IsWrite, MarksTurn, Follows, so_far_of, Ends}
 use Rattle.cmd_tasks.specs.declared.trace.Item.{Item}
 use Rattle.cmd_tasks.specs.declared.trace.Item.TheVariants.{Looked, Wrote, Lost, Faulted}

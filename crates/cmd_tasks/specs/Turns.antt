@@ -1,5 +1,5 @@
 -- What belongs to each turn of a command that takes many documents: its next sight, or its reply.
-use Rattle.std.specs.Prelude.{◌≡◌, ◌⊎◌, ℕ, ◌+◌, ◌-◌, ◌^◌, List, [], map, reverse, min, nat_lt, Bool, true, false, Option, Some, None, ⊤, IfSome, if◌then◌else◌}
+use Rattle.std.specs.Prelude.{◌≡◌, ◌⊎◌, ℕ, ◌+◌, ◌-◌, ◌^◌, List, map, reverse, min, nat_lt, Bool, true, false, Option, Some, None, ⊤, IfSome, if◌then◌else◌}
 use Rattle.std.specs.Option.{option_map}
 use Rattle.json_tree.specs.Tree.{Tree}
 use Rattle.col_keeper.specs.Tables.{Name}

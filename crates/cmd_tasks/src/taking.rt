@@ -1,7 +1,6 @@
 // Many documents: what is taken next, and the reply where nothing is.
-ghost use Rattle.std.specs.Prelude.{◌≡◌, ◌⊎◌, ℕ, ◌+◌, ◌-◌, ◌^◌, ◌<◌, ◌≤◌, min, [], false, Option, Some, IfOk, IfErr, IfSome};
+ghost use Rattle.std.specs.Prelude.{◌≡◌, ◌⊎◌, ℕ, ◌+◌, ◌-◌, ◌^◌, ◌<◌, ◌≤◌, min, false, Option, Some, IfOk, IfErr, IfSome};
 ghost use Rattle.std.specs.Option.{option_map};
-ghost use Rattle.json_tree.specs.Doc.{IsDocument};
 ghost use Rattle.shred_cols.specs.Row.{id_of};
 ghost use Rattle.col_keeper.specs.Tables.{IsShort};
 ghost use Rattle.update_ops.specs.Apply.{Gives, apply};
@@ -120,7 +119,8 @@ pub(crate) fn counted(alloc: Global, stand: Stand, id: DocId, changed: u64) -> S
     }
 }
 
-/// What a row's document asks for: nothing, since it would stay as it is, or an attempt, or nothing can be done with it.
+/// What a row's document asks for: no write, since it would stay as it is, or an attempt; or its change is refused, or
+/// memory was wanting.
 #[derive(Drop)]
 enum Met {
     Unchanged(DocId),
@@ -147,7 +147,7 @@ fn meet(alloc: Global, doing: &Doing, row: &Row) -> Met
 }
 
 /// Where the command stands, and what is taken next: an attempt, or nothing, since nothing is left or as many are
-/// counted as may be, or its change is refused.
+/// counted as may be; or its change is refused, or memory was wanting.
 #[derive(Drop)]
 enum Settled {
     Taken { stand: Stand, attempt: Attempt },

@@ -1,5 +1,4 @@
-use Rattle.std.proofs.Common.{rules, ◌≡◌, [], List}
-use Rattle.shred_cols.specs.Row.{Version}
+use Rattle.std.proofs.Common.{rules, ◌≡◌, []}
 use Rattle.cmd_tasks.specs.Many.{doing_of}
 use Rattle.cmd_tasks.proofs.Settling.{first_short, takes, takes_ready, refuses, settling_counts, ends_empty, ends_full}
 use Rattle.cmd_tasks.proofs.taking.settle.Goals as goal
