@@ -77,7 +77,7 @@ none_there k m n (e ∷ es) le h = elim (is_work k e) as (λ b. is_work k e ≡ 
   | false ↦ λ w b. (w, none_there k (m + 1) n es (omega arith) b)
 ] refl h
 
-drop_drop : {A : Type 0} (p n : ℕ) (xs : List A) → p ≤ n → n ≤ length xs → (front : List A) × (drop p xs ≡ front ++ drop n xs) × (p + length front ≡ n)
+pub drop_drop : {A : Type 0} (p n : ℕ) (xs : List A) → p ≤ n → n ≤ length xs → (front : List A) × (drop p xs ≡ front ++ drop n xs) × (p + length front ≡ n)
 drop_drop p n xs a b = (take (n - p) (drop p xs), sym (take-append-drop (n - p) (drop p xs)) ∙ ap (λ (z : List _). take (n - p) (drop p xs) ++ z) (again p n xs a), let l = length-take-le (n - p) (drop p xs) (let d = length-drop p xs in omega arith) in omega arith)
   where
     again : {A : Type 0} (p n : ℕ) (xs : List A) → p ≤ n → drop (n - p) (drop p xs) ≡ drop n xs

@@ -192,8 +192,8 @@ module _ (base : Base) (coll : Name) (k : ℕ) (moment : ℤ) (d : Deletion) (on
 
   pub seek_stopped : (item : Item) (r : Reply) → Seeks base coll None d.search k H' (round earlier) (sr.Stopped item r) → Serves base coll k moment (deleting d) (sight H' item ∷ earlier) r
   seek_stopped item r h = ⊎_elim
-      (λ stops. stopped_serves base coll k moment (deleting d) earlier (sight H' item) stops.0 r way.0
-      (stops_more base coll k _ (Marks base coll k (deleting d) earlier) (IsToWrite base coll k (deleting d) earlier) item (sight H' item) stops.0
+      (λ stops. stopped_serves base coll k moment (deleting d) tt earlier (sight H' item) stops.0 r way.0
+      (stops_more base coll k _ (Marks base coll k moment (deleting d) earlier) (IsToWrite base coll k moment (deleting d) earlier) item (sight H' item) stops.0
       (λ a t z. match_none (chosen base coll k f sort earlier) _ _ way.1.1 z) (not_some (chosen base coll k f sort earlier) way.1.1) stops.1) stops.2)
       (λ many. seek_many item many.0 r many.1 many.2 many.3)
       h
@@ -282,8 +282,8 @@ module _ (base : Base) (coll : Name) (k : ℕ) (moment : ℤ) (d : Deletion) (re
   pub delete_marked : (H' : List Entry) (at : ℕ) (after up : Tree) (error : ErrorItem) (o : Moved) → after ≡ id → up ≡ id → H' ≡ H → at ≡ length H → IsNoWrite coll (replay base H) error
       → EndsMarked at (Some after) (Some up) (Refuses error) o → Leads base coll k moment H' (Deleting d read id) before o
   delete_marked H' at after up error (m.Goes i w) after_is up_is same here cause is = absurd is
-  delete_marked H' at after up error (m.Ends i r) after_is up_is same here cause is = stopped_serves base coll k moment (deleting d) before (sight H' i) error r way.0
-      (mark_stops base coll k (Marks base coll k (deleting d) before) (IsToWrite base coll k (deleting d) before) H H' at (Some after) (Some up) i error same here is.0
+  delete_marked H' at after up error (m.Ends i r) after_is up_is same here cause is = stopped_serves base coll k moment (deleting d) tt before (sight H' i) error r way.0
+      (mark_stops base coll k (Marks base coll k moment (deleting d) before) (IsToWrite base coll k moment (deleting d) before) H H' at (Some after) (Some up) i error same here is.0
       (match_some (chosen base coll k g by before) picked.x _ _ picked.is (ap (λ (t : Tree). Some t) (after_is ∙ sym picked.same_id), ap (λ (t : Tree). Some t) (up_is ∙ sym picked.same_id)))
       (some_is (chosen base coll k g by before) picked.x picked.is) cause) is.1
   delete_marked H' at after up error m.NoMemory after_is up_is same here cause is = absurd is
@@ -292,5 +292,5 @@ module _ (base : Base) (coll : Name) (k : ℕ) (moment : ℤ) (d : Deletion) (re
       → EndsSo (Faulted at before_count count) (Refuses (errors.store_fault before_count count)) o → Leads base coll k moment H' (Deleting d read id) before o
   delete_failed H' at low high (m.Goes i w) longer here is = absurd is
   delete_failed H' at low high (m.Ends i r) longer here is =
-      subst (λ (z : Item). Serves base coll k moment (deleting d) (sight H' z ∷ before) r) (sym is.0) (failed_serves base coll k moment (deleting d) before H H' at low high r way.0 longer here is.1)
+      subst (λ (z : Item). Serves base coll k moment (deleting d) (sight H' z ∷ before) r) (sym is.0) (failed_serves base coll k moment (deleting d) tt before H H' at low high r way.0 longer here is.1)
   delete_failed H' at low high m.NoMemory longer here is = absurd is

@@ -32,7 +32,7 @@ pub record LooksBack (H : List Entry) (trace : List Item) (look : Sight) : Type 
   pub quiet : writes item ≡ false
   pub none_wrote : written later ≡ []
 
-same_sight : (a b : Sight) → ◌≡◌ {A = Option Sight} (Some a) (Some b) → a ≡ b
+pub same_sight : (a b : Sight) → ◌≡◌ {A = Option Sight} (Some a) (Some b) → a ≡ b
 same_sight a b e = cc
 
 abbrev no_sights : List Sight
@@ -70,7 +70,7 @@ looks_back H (Wrote at ∷ rs) look h = absurd (not_there h.0 look h.1)
 looks_back H (Lost at read found ∷ rs) look h = absurd (not_there h.0 look h.1)
 looks_back H (Faulted at before count ∷ rs) look h = absurd (not_there h.0 look h.1)
 
-reverse_map : (H : List Entry) (xs : List Item) → reverse (map (sight H) xs) ≡ map (sight H) (reverse xs)
+pub reverse_map : (H : List Entry) (xs : List Item) → reverse (map (sight H) xs) ≡ map (sight H) (reverse xs)
 reverse_map H [] = refl
 reverse_map H (x ∷ xs) = reverse-append (sight H x ∷ []) (map (sight H) xs) ∙ (ap (λ (z : List Sight). z ++ sight H x ∷ []) (reverse_map H xs) ∙ (sym (map-append (sight H) (reverse xs) (x ∷ [])) ∙ ap (map (sight H)) (sym (reverse-append (x ∷ []) xs))))
 

@@ -203,8 +203,8 @@ module _ (base : Base) (coll : Name) (k : ℕ) (moment : ℤ) (u : Updating) (on
 
   pub choose_stopped : (item : Item) (r : Reply) → Seeks base coll None u.search k H' (round earlier) (sr.Stopped item r) → Serves base coll k moment (updating u) (sight H' item ∷ earlier) r
   choose_stopped item r h = ⊎_elim
-      (λ stops. stopped_serves base coll k moment (updating u) earlier (sight H' item) stops.0 r way.0
-      (stops_more base coll k _ (Marks base coll k (updating u) earlier) (IsToWrite base coll k (updating u) earlier) item (sight H' item) stops.0
+      (λ stops. stopped_serves base coll k moment (updating u) tt earlier (sight H' item) stops.0 r way.0
+      (stops_more base coll k _ (Marks base coll k moment (updating u) earlier) (IsToWrite base coll k moment (updating u) earlier) item (sight H' item) stops.0
       (λ a t z. match_none (chosen base coll k f sort earlier) _ _ way.1.1 z) (not_some (chosen base coll k f sort earlier) way.1.1) stops.1) stops.2)
       (λ many. choose_many item many.0 r many.1 many.2 many.3)
       h

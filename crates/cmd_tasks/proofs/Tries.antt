@@ -29,9 +29,10 @@ use Rattle.cmd_tasks.specs.Placed.{IsPlaced}
 use Rattle.cmd_tasks.specs.Rank.{rank_of}
 use Rattle.cmd_tasks.specs.Looking.{Made, IsLooked, Refuses}
 use Rattle.cmd_tasks.specs.Moves.{updating, tries_rank, IsUpdating, Steps, Leads, IsUnderWay, IsChosen, LosesTo, Fits, EndsSo, EndsMarked, with_loss}
+use Rattle.cmd_tasks.specs.Many.{doing_of}
 use Rattle.cmd_tasks.specs.declared.work.Updating.{Updating}
 use Rattle.cmd_tasks.specs.declared.work.State.{State}
-use Rattle.cmd_tasks.specs.declared.work.State.TheVariants.{Inserting, Selecting, Listing, Counting, Choosing, Changing, Seeking, Deleting, Done}
+use Rattle.cmd_tasks.specs.declared.work.State.TheVariants.{Inserting, Selecting, Listing, Counting, Choosing, Changing, Seeking, Deleting, Paging, Trying, Retrying, Done}
 use Rattle.cmd_tasks.specs.declared.work.Moved.{Moved}
 use Rattle.cmd_tasks.specs.declared.work.Moved.TheVariants as m
 use Rattle.cmd_tasks.specs.declared.trace.Item.{Item}
@@ -41,6 +42,7 @@ use Rattle.cmd_tasks.proofs.Requests.{IsNoWrite, marked_so, stopped_serves, fail
 use Rattle.cmd_tasks.proofs.Fresh.{match_some, match_none, some_is, fresh_searching, none_first}
 use Rattle.cmd_tasks.proofs.Attempts.{same_some, GivenOnce, Touched}
 use Rattle.cmd_tasks.proofs.Lookback.{still_same, came_between}
+use Rattle.cmd_tasks.proofs.Fitting.{fits_attempt}
 
 -- ---- what a step is, told or not
 
@@ -163,8 +165,8 @@ module _ (base : Base) (coll : Name) (k : ℕ) (moment : ℤ) (u : Updating) whe
         → IsNoWrite coll (replay base H) error
         → EndsMarked at (Some after) (Some up) (Refuses error) o → Leads base coll k moment H' (Changing u read d) earlier o
     change_marked H' at after up error (m.Goes i w) after_is up_is same here cause is = absurd is
-    change_marked H' at after up error (m.Ends i r) after_is up_is same here cause is = stopped_serves base coll k moment (updating u) earlier (sight H' i) error r way.0
-        (mark_stops base coll k (Marks base coll k (updating u) earlier) (IsToWrite base coll k (updating u) earlier) H H' at (Some after) (Some up) i error same here is.0
+    change_marked H' at after up error (m.Ends i r) after_is up_is same here cause is = stopped_serves base coll k moment (updating u) tt earlier (sight H' i) error r way.0
+        (mark_stops base coll k (Marks base coll k moment (updating u) earlier) (IsToWrite base coll k moment (updating u) earlier) H H' at (Some after) (Some up) i error same here is.0
         (match_some (chosen base coll k f sort earlier) kept.x _ _ kept.is (ap (λ (t : Tree). Some t) (after_is ∙ sym kept.same_id), ap (λ (t : Tree). Some t) (up_is ∙ sym kept.same_id)))
         (some_is (chosen base coll k f sort earlier) kept.x kept.is) cause) is.1
     change_marked H' at after up error m.NoMemory after_is up_is same here cause is = absurd is
@@ -173,7 +175,7 @@ module _ (base : Base) (coll : Name) (k : ℕ) (moment : ℤ) (u : Updating) whe
         → EndsSo (Faulted at before count) (Refuses (errors.store_fault before count)) o → Leads base coll k moment H' (Changing u read d) earlier o
     change_failed H' at before count (m.Goes i w) longer here is = absurd is
     change_failed H' at before count (m.Ends i r) longer here is =
-        subst (λ (z : Item). Serves base coll k moment (updating u) (sight H' z ∷ earlier) r) (sym is.0) (failed_serves base coll k moment (updating u) earlier H H' at before count r way.0 longer here is.1)
+        subst (λ (z : Item). Serves base coll k moment (updating u) (sight H' z ∷ earlier) r) (sym is.0) (failed_serves base coll k moment (updating u) tt earlier H H' at before count r way.0 longer here is.1)
     change_failed H' at before count m.NoMemory longer here is = absurd is
 
 -- what a state asks of the store, by where it stands
@@ -186,4 +188,7 @@ fits_so once base coll k moment (Choosing u p) H trace placed lawful apart old w
 fits_so once base coll k moment (Changing u read d) H trace placed lawful apart old way = fits_now base coll k moment u read d H trace placed lawful apart way once old (version (replay base H) coll (id_of d)) refl
 fits_so once base coll k moment (Seeking d p) H trace placed lawful apart old way = tt
 fits_so once base coll k moment (Deleting d read id) H trace placed lawful apart old way = tt
+fits_so once base coll k moment (Paging many stand) H trace placed lawful apart old way = tt
+fits_so once base coll k moment (Trying many stand attempt) H trace placed lawful apart old way = fits_attempt base coll (doing_of many.doing) stand attempt _ H trace way.1.0 way.1.1 once lawful apart old (version (replay base H) coll attempt.id) refl
+fits_so once base coll k moment (Retrying many stand id) H trace placed lawful apart old way = tt
 fits_so once base coll k moment (Done r) H trace placed lawful apart old way = tt

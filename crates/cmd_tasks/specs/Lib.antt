@@ -17,5 +17,8 @@ pub mod Searching
 pub mod Deleting
 pub mod Many
 pub mod Moves
+pub mod Going
+pub mod ManySteps
 pub mod Stands
 pub mod Joined
+pub mod Tally

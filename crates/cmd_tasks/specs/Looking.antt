@@ -1,5 +1,5 @@
 -- One look of a listing, told or not: what a page of the store is to a request.
-use Rattle.std.specs.Prelude.{◌≡◌, ◌⊎◌, ℕ, ◌<◌, List, [], ◌++◌, length, map, Bool, true, Option, Some, None, ⊤, IfSome}
+use Rattle.std.specs.Prelude.{◌≡◌, ◌⊎◌, ℕ, ◌<◌, ◌≤◌, List, [], ◌++◌, length, map, Bool, true, Option, Some, None, ⊤, IfSome}
 use Rattle.std.specs.List.{filter, AllByRecursion}
 use Rattle.outside_io.specs.Causes.{Rose}
 use Rattle.json_tree.specs.Tree.{Tree}
@@ -73,6 +73,12 @@ abbrev pub ShowsShort : Glance → Type 0
 ShowsShort (g.Shown item page up) = AreShort page.items
 ShowsShort (g.Ended item reply) = ⊤
 ShowsShort g.NoMemory = ⊤
+
+-- a page shows no more rows than a page of the store has
+abbrev pub ShowsFew : Glance → Type 0
+ShowsFew (g.Shown item page up) = length page.items ≤ 64
+ShowsFew (g.Ended item reply) = ⊤
+ShowsFew g.NoMemory = ⊤
 
 -- the reply refuses by this error, or memory was wanting
 abbrev pub Refuses : ErrorItem → Reply → Type 0

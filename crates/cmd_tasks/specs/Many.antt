@@ -13,6 +13,7 @@ use Rattle.view_sort.specs.declared.page.PageState.{PageState}
 use Rattle.store_core.specs.State.{State as Base, version}
 use Rattle.store_core.specs.Journal.{FitsId, new_doc}
 use Rattle.store_core.specs.Numbers.{touches}
+use Rattle.store_core.specs.Tries.{IsRead}
 use Rattle.cmd_grammar.specs.Commands.{CommandTree, update_many, delete_many, IsAskablePage}
 use Rattle.cmd_tasks.specs.Rank.{rank_of}
 use Rattle.cmd_tasks.specs.Trace.{Sight, Found, now, up_to}
@@ -71,8 +72,9 @@ pub record IsStand (stand : Stand) : Type 0 where
   pub short : AreShort stand.queue.items
   pub lost : length stand.lost.items < 4
 
--- the change may be written
+-- the change may be written in the place of the version that was read
 pub record IsReadyTo (attempt : Attempt) : Type 0 where
+  pub read : IsRead attempt.change (Some attempt.read)
   pub short : IsShort attempt.id
   pub new : FitsId attempt.id (new_doc attempt.change)
 
@@ -110,32 +112,32 @@ module _ (base : Base) (coll : Name) where
     pub passed : AllByRecursion (λ s. is_passed st s.x.id ≡ true) st.queue
     pub written : (id : Tree) → is_written coll id sights ≡ true → (is_passed st id ≡ true) × AllByRecursion (λ s. is_lt (id_cmp id s.x.id) ≡ true) st.queue
 
-  -- the state tells where the command stands, with these still waiting
-  pub record IsStanding (stand : Stand) (st : Standing) (waiting : List Shown) : Type 0 where
-    pub from : stand.from ≡ st.from
-    pub is_whole : stand.is_whole ≡ st.is_whole
-    pub queue : map found_row (reverse stand.queue.items) ≡ map (λ s. s.x) waiting
-    pub lost : reverse stand.lost.items ≡ st.losses
-    pub matched : stand.matched ≡ st.matched
-    pub modified : stand.modified ≡ st.modified
-    pub last : stand.last ≡ st.last
+-- the state tells where the command stands, with these still waiting
+pub record IsStanding (stand : Stand) (st : Standing) (waiting : List Shown) : Type 0 where
+  pub from : stand.from ≡ st.from
+  pub is_whole : stand.is_whole ≡ st.is_whole
+  pub queue : map found_row (reverse stand.queue.items) ≡ map (λ s. s.x) waiting
+  pub lost : reverse stand.lost.items ≡ st.losses
+  pub matched : stand.matched ≡ st.matched
+  pub modified : stand.modified ≡ st.modified
+  pub last : stand.last ≡ st.last
 
-  -- the first one is attempted next, by this change
-  pub record IsAttempted (doing : Doing) (stand : Stand) (attempt : Attempt) (st : Standing) : Type 0 where
-    pub first : Shown
-    pub rest : List Shown
-    pub queue : st.queue ≡ first ∷ rest
-    pub first_time : st.again ≡ false
-    pub id : first.x.id ≡ attempt.id
-    pub read : first.x.tx ≡ attempt.read
-    pub change : change_of doing first.x.doc ≡ Ok (Some attempt.change)
-    pub stands : IsStanding stand st rest
+-- the first one is attempted next, by this change
+pub record IsAttempted (doing : Doing) (stand : Stand) (attempt : Attempt) (st : Standing) : Type 0 where
+  pub first : Shown
+  pub rest : List Shown
+  pub queue : st.queue ≡ first ∷ rest
+  pub first_time : st.again ≡ false
+  pub id : first.x.id ≡ attempt.id
+  pub read : first.x.tx ≡ attempt.read
+  pub change : change_of doing first.x.doc ≡ Ok (Some attempt.change)
+  pub stands : IsStanding stand st rest
 
-  -- the first one is looked at alone next
-  pub record IsRetried (stand : Stand) (id : Tree) (st : Standing) : Type 0 where
-    pub first : Shown
-    pub rest : List Shown
-    pub queue : st.queue ≡ first ∷ rest
-    pub again : st.again ≡ true
-    pub id_is : first.x.id ≡ id
-    pub stands : IsStanding stand st rest
+-- the first one is looked at alone next
+pub record IsRetried (stand : Stand) (id : Tree) (st : Standing) : Type 0 where
+  pub first : Shown
+  pub rest : List Shown
+  pub queue : st.queue ≡ first ∷ rest
+  pub again : st.again ≡ true
+  pub id_is : first.x.id ≡ id
+  pub stands : IsStanding stand st rest

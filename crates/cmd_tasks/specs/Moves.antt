@@ -1,7 +1,7 @@
 -- What a step of the work is, told or not; and how it goes on with a request that is under way.
 use Rattle.std.specs.Prelude.{◌≡◌, ◌⊎◌, ℕ, ℤ, zero, suc, ◌+◌, ◌-◌, ◌<◌, ◌≤◌, List, [], ◌∷◌, ◌++◌, length, map, reverse, false, Option, Some, None, ⊤, IfSome, nat_le, if◌then◌else◌}
 use Rattle.std.proofs.Common.{Vec, Global}
-use Rattle.std.specs.Option.{ForSome}
+use Rattle.std.specs.Option.{ForSome, option_map}
 use Rattle.json_tree.specs.Tree.{Tree}
 use Rattle.json_tree.specs.View.{tree}
 use Rattle.shred_cols.specs.Row.{Version, id_of}
@@ -18,7 +18,7 @@ use Rattle.store_core.specs.State.{State as Base, version}
 use Rattle.store_core.specs.Journal.{IsMadeOfRead}
 use Rattle.store_core.specs.declared.entry.Change.TheVariants.{Update}
 use Rattle.store_core.specs.declared.entry.Entry.{Entry}
-use Rattle.cmd_grammar.specs.Commands.{CommandTree, Paging, insert_one, find_one, find, count_documents, update_one, delete_one, IsStorable, IsAskablePaging}
+use Rattle.cmd_grammar.specs.Commands.{CommandTree, Paging as PageOf, insert_one, find_one, find, count_documents, update_one, delete_one, IsStorable, IsAskablePaging}
 use Rattle.cmd_tasks.specs.Rank.{rank_of}
 use Rattle.cmd_tasks.specs.Trace.{Sight, sight, Found, shown, next_from}
 use Rattle.cmd_tasks.specs.Served.{IsPartOf, IsOpen, Serves, TellsFound, TellsListed, TellsUnwritten, MakesAnother, counted, sights, chosen, round, losses}
@@ -46,7 +46,7 @@ use Rattle.cmd_tasks.specs.declared.work.Moved.{Moved}
 use Rattle.cmd_tasks.specs.declared.work.Moved.TheVariants as m
 
 -- the part of a find that its state tells
-abbrev pub paging : Part → Paging
+abbrev pub paging : Part → PageOf
 paging p = record { limit = p.limit; skip = p.skip; page = p.page.value }
 
 -- the command that an update is of
@@ -90,8 +90,8 @@ IsReady (Changing u read d) = IsUpdating u × KeepsLimits d
 IsReady (Seeking d progress) = IsDeletion d × (progress.shown < 10001) × AreShort progress.kept.items
 IsReady (Deleting d read id) = IsDeletion d × IsShort id
 IsReady (Paging many stand) = IsMany many × IsStand stand × (stand.is_whole ≡ false) × (stand.queue.items ≡ [])
-IsReady (Trying many stand attempt) = IsMany many × IsStand stand × (stand.matched < 20) × IsReadyTo attempt
-IsReady (Retrying many stand id) = IsMany many × IsStand stand × (stand.matched < 20) × IsShort id
+IsReady (Trying many stand attempt) = IsMany many × IsStand stand × (stand.matched < 20) × IsReadyTo attempt × (length stand.queue.items < 64)
+IsReady (Retrying many stand id) = IsMany many × IsStand stand × (stand.matched < 20) × IsShort id × (length stand.queue.items < 64)
 IsReady (Done reply) = ⊥
 
 -- updates are made as of this moment

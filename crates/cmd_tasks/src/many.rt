@@ -1,9 +1,16 @@
 // The steps of a command that takes many documents: a page, an attempt on one of them, or a look at one alone.
-ghost use Rattle.std.specs.Prelude.{◌+◌, ◌<◌, ◌≤◌, Some};
+ghost use Rattle.std.specs.Prelude.{◌≡◌, ◌⊎◌, ◌+◌, ◌<◌, ◌≤◌, length, Some, IfOk, IfSome, IsSome};
+ghost use Rattle.shred_cols.specs.Row.{id_of};
+ghost use Rattle.filter_tree.specs.View.{filter_tree};
+ghost use Rattle.col_keeper.specs.Tables.{IsShort};
 ghost use Rattle.store_core.specs.Counts.{opened_in};
 ghost use Rattle.store_core.specs.Store.{IsLawful, SameBase, AtState};
 ghost use Rattle.store_core.specs.Growth.{Grows};
+ghost use Rattle.cmd_tasks.specs.Wanted.{IsWanted};
+ghost use Rattle.cmd_tasks.specs.Many.{IsMany, IsStand};
 ghost use Rattle.cmd_tasks.specs.Moves.{Steps, Promises, IsReady, Fits};
+ghost use Rattle.cmd_tasks.specs.ManySteps.{HasPage, EndsAfter, LosesOne, matching_row, pairs_of, HasFirst, Retakes};
+ghost use Rattle.cmd_tasks.specs.declared.work.Moved.TheVariants as moved;
 
 use crate::deletes::{Ends, ends_of};
 use crate::glance::glance;
@@ -11,17 +18,19 @@ use crate::steps::{failed, marked};
 use crate::taking::{counted, go_on, told_after};
 use crate::trace::Item;
 use crate::updates::{MOST, conflict, with_loss};
-use crate::work::{Attempt, Glance, Many, Moved, Stand, State, Wanted, is_match};
+use crate::work::{Attempt, Doing, Glance, Many, Moved, Stand, State, Wanted, is_match};
 use col_keeper::Keeper;
 use doc_paths::CollName;
 use json_tree::{DocId, TreeFault};
 use reply_env::{Loss, Reply, no_collection, versions_spent};
 use shred_cols::Row;
 use std::alloc::{AllocError, Global};
-use store_core::{Looked, Store, WriteOutcome};
+use store_core::{Looked, Store, WriteOutcome, entries_tell_numbers, numbers_are_given_once};
 
 /// Where the command stands with a page more, of which nothing is taken.
-fn listed(stand: Stand, rows: Vec<Row>, last: Option<DocId>) -> Stand {
+fn listed(stand: Stand, rows: Vec<Row>, last: Option<DocId>) -> Stand
+    ensures { HasPage stand rows.items last result }
+{
     let mut queue = rows;
     queue.reverse();
     Stand {
@@ -36,12 +45,14 @@ fn listed(stand: Stand, rows: Vec<Row>, last: Option<DocId>) -> Stand {
 }
 
 /// A step that ends tells what was written before.
-fn ends_after(many: &Many, stand: &Stand, moved: Moved) -> Moved {
+fn ends_after(doing: &Doing, stand: &Stand, moved: Moved) -> Moved
+    ensures { EndsAfter doing.now stand.now moved result }
+{
     match moved {
         Moved::Goes { item, state } => Moved::Goes { item, state },
         Moved::Ends { item, reply } => Moved::Ends {
             item,
-            reply: told_after(&many.doing, stand, reply),
+            reply: told_after(doing, stand, reply),
         },
         Moved::NoMemory => Moved::NoMemory,
     }
@@ -84,7 +95,9 @@ fn attempt_lost(
     stand: Stand,
     id: DocId,
     loss: Loss,
-) -> Moved {
+) -> Moved
+    ensures { LosesOne at many stand id loss result }
+{
     let item = Item::Lost {
         at,
         read: loss.read,
@@ -148,6 +161,9 @@ pub(crate) fn try_one<K: Keeper>(
     ensures work { K.called store.new.keeper ≤ K.called store.old.keeper + 1 }
     ensures lawful { IsLawful store.new }
 {
+    store.journal_len();
+    numbers_are_given_once();
+    entries_tell_numbers();
     let Attempt { id, read, change } = attempt;
     let Ok(ends) = ends_of(alloc, &id) else {
         return Moved::NoMemory;
@@ -162,30 +178,40 @@ pub(crate) fn try_one<K: Keeper>(
         }
         WriteOutcome::NoCollection { at } => {
             let error = no_collection(alloc, coll.text());
-            ends_after(&many, &stand, marked(alloc, at, after, up_to, error))
+            ends_after(&many.doing, &stand, marked(alloc, at, after, up_to, error))
         }
         WriteOutcome::VersionsSpent { at } => {
             let error = versions_spent(alloc);
-            ends_after(&many, &stand, marked(alloc, at, after, up_to, error))
+            ends_after(&many.doing, &stand, marked(alloc, at, after, up_to, error))
         }
         WriteOutcome::Fault { at, before, after } => {
-            ends_after(&many, &stand, failed(alloc, at, before, after))
+            ends_after(&many.doing, &stand, failed(alloc, at, before, after))
         }
         WriteOutcome::NoMemory => Moved::NoMemory,
     }
 }
 
 /// The row, if it is there and matches.
-fn matching(wanted: &Wanted, row: Option<Row>) -> Option<Row> {
-    let row = row?;
-    match &wanted.plan {
-        Some(plan) if is_match(&wanted.filter, plan, &row) => Some(row),
-        _ => None,
+fn matching(wanted: &Wanted, row: Option<Row>) -> Option<Row>
+    requires wanted { IsWanted wanted.now }
+    requires plan { IsSome wanted.now.plan }
+    ensures { result ≡ matching_row (filter_tree wanted.now.filter) row }
+{
+    let Some(row) = row else {
+        return None;
+    };
+    let Some(plan) = &wanted.plan else { unreachable!() };
+    if is_match(&wanted.filter, plan, &row) {
+        Some(row)
+    } else {
+        None
     }
 }
 
 /// The pair of the row that a look at one id shows, if it shows one.
-fn pair_of(alloc: Global, row: &Option<Row>) -> Result<Vec<(DocId, u64)>, TreeFault> {
+fn pair_of(alloc: Global, row: &Option<Row>) -> Result<Vec<(DocId, u64)>, TreeFault>
+    ensures { IfOk result (λ v. v.items ≡ pairs_of row.now) }
+{
     let mut pairs = Vec::new(alloc);
     if let Some(row) = row {
         let id = row.id().try_copy(alloc)?;
@@ -195,7 +221,9 @@ fn pair_of(alloc: Global, row: &Option<Row>) -> Result<Vec<(DocId, u64)>, TreeFa
 }
 
 /// Where the command stands when the row that is looked at again is first in the queue, or is passed over.
-fn put_first(alloc: Global, stand: Stand, row: Option<Row>) -> Result<Stand, AllocError> {
+fn put_first(alloc: Global, stand: Stand, row: Option<Row>) -> Result<Stand, AllocError>
+    ensures { IfOk result (λ new. HasFirst stand row new) }
+{
     let mut stand = stand;
     match row {
         Some(row) => {
@@ -214,7 +242,14 @@ fn retaken(
     many: Many,
     stand: Stand,
     row: Option<Row>,
-) -> Moved {
+) -> Moved
+    requires many { IsMany many }
+    requires plan { IsSome many.wanted.plan }
+    requires stand { IsStand stand }
+    requires room { length stand.queue.items < 64 }
+    requires short { IfSome row (λ v. IsShort (id_of v.doc)) }
+    ensures { Retakes at ends.after ends.up_to many stand row result ⊎ (result ≡ moved.NoMemory) }
+{
     let row = matching(&many.wanted, row);
     let Ok(shown) = pair_of(alloc, &row) else {
         return Moved::NoMemory;
@@ -262,13 +297,13 @@ pub(crate) fn look_again<K: Keeper>(
         Looked::NoCollection { at } => {
             let error = no_collection(alloc, coll.text());
             ends_after(
-                &many,
+                &many.doing,
                 &stand,
                 marked(alloc, at, ends.after, ends.up_to, error),
             )
         }
         Looked::Fault { at, before, after } => {
-            ends_after(&many, &stand, failed(alloc, at, before, after))
+            ends_after(&many.doing, &stand, failed(alloc, at, before, after))
         }
         Looked::NoMemory => Moved::NoMemory,
     }
