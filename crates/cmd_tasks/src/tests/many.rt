@@ -23,17 +23,17 @@ struct Scene {
     items: &'static str,
 }
 
-const A1: &str = r#"{"insertOne":{"document":{"_id":"a","k":1}}}"#;
+const A_ONE: &str = r#"{"insertOne":{"document":{"_id":"a","k":1}}}"#;
 
-const B1: &str = r#"{"insertOne":{"document":{"_id":"b","k":1}}}"#;
+const B_ONE: &str = r#"{"insertOne":{"document":{"_id":"b","k":1}}}"#;
 
-const C1: &str = r#"{"insertOne":{"document":{"_id":"c","k":1}}}"#;
+const C_ONE: &str = r#"{"insertOne":{"document":{"_id":"c","k":1}}}"#;
 
-const D2: &str = r#"{"insertOne":{"document":{"_id":"d","k":2}}}"#;
+const D_TWO: &str = r#"{"insertOne":{"document":{"_id":"d","k":2}}}"#;
 
 const TEXT: &str = r#"{"insertOne":{"document":{"_id":"c","k":1,"n":"x"}}}"#;
 
-const A2: &str = r#"{"updateOne":{"filter":{"_id":"a"},"update":{"$set":{"k":2}}}}"#;
+const A_TWO: &str = r#"{"updateOne":{"filter":{"_id":"a"},"update":{"$set":{"k":2}}}}"#;
 
 const TOUCH: &str = r#"{"updateOne":{"filter":{"_id":"a"},"update":{"$inc":{"z":1}}}}"#;
 
@@ -59,70 +59,70 @@ const INC: &str = r#"{"updateMany":{"filter":{"k":1},"update":{"$inc":{"n":1}}}}
 
 const SCENES: [Scene; 25] = [
     Scene {
-        before: &[A1, B1, D2],
+        before: &[A_ONE, B_ONE, D_TWO],
         body: DELETE,
         others: &[],
         reply: r#"{"status":{"deletedCount":2}}"#,
         items: "looked 8 wrote 8 wrote 9 ",
     },
     Scene {
-        before: &[A1],
+        before: &[A_ONE],
         body: DELETE,
-        others: &[(0, A2)],
+        others: &[(0, A_TWO)],
         reply: r#"{"status":{"deletedCount":0}}"#,
         items: "looked 4 lost 5 looked 5 ",
     },
     Scene {
-        before: &[A1, B1],
+        before: &[A_ONE, B_ONE],
         body: DELETE,
         others: &[(0, TOUCH)],
         reply: r#"{"status":{"deletedCount":2}}"#,
         items: "looked 6 lost 7 looked 7 wrote 7 wrote 8 ",
     },
     Scene {
-        before: &[A1, B1],
+        before: &[A_ONE, B_ONE],
         body: DELETE,
         others: &[(0, TOUCH), (2, TOUCH), (4, TOUCH), (6, TOUCH)],
         reply: r#"{"errors":[{"message":"Lost to other writers: 1>3, 3>4, 4>5, 5>6","errorCode":"CONCURRENCY_FAILURE"}]}"#,
         items: "looked 6 lost 7 looked 7 lost 8 looked 8 lost 9 looked 9 lost 10 ",
     },
     Scene {
-        before: &[A1, B1, C1],
+        before: &[A_ONE, B_ONE, C_ONE],
         body: DELETE,
         others: &[(0, B_GONE)],
         reply: r#"{"status":{"deletedCount":2}}"#,
         items: "looked 8 wrote 9 lost 10 looked 10 wrote 10 ",
     },
     Scene {
-        before: &[A1, B1, C1, D2],
+        before: &[A_ONE, B_ONE, C_ONE, D_TWO],
         body: SET,
         others: &[],
         reply: r#"{"status":{"matchedCount":3,"modifiedCount":3}}"#,
         items: "looked 10 wrote 10 wrote 11 wrote 12 ",
     },
     Scene {
-        before: &[A1, B1, C1, B_DONE],
+        before: &[A_ONE, B_ONE, C_ONE, B_DONE],
         body: SET,
         others: &[],
         reply: r#"{"status":{"matchedCount":3,"modifiedCount":2}}"#,
         items: "looked 10 wrote 10 wrote 11 ",
     },
     Scene {
-        before: &[B1, B_DONE],
+        before: &[B_ONE, B_DONE],
         body: SET,
         others: &[],
         reply: r#"{"status":{"matchedCount":1,"modifiedCount":0}}"#,
         items: "looked 6 ",
     },
     Scene {
-        before: &[A1, B1],
+        before: &[A_ONE, B_ONE],
         body: SET,
         others: &[(1, B_DONE)],
         reply: r#"{"status":{"matchedCount":2,"modifiedCount":1}}"#,
         items: "looked 6 wrote 6 lost 8 looked 8 ",
     },
     Scene {
-        before: &[A1, B1, TEXT],
+        before: &[A_ONE, B_ONE, TEXT],
         body: INC,
         others: &[],
         reply: r#"{"status":{"matchedCount":2,"modifiedCount":2},"errors":[{"message":"Update target is of the wrong kind at n","errorCode":"UNSUPPORTED_UPDATE_OPERATION_TARGET"}]}"#,
@@ -136,98 +136,98 @@ const SCENES: [Scene; 25] = [
         items: "looked 4 ",
     },
     Scene {
-        before: &[A1, B1],
+        before: &[A_ONE, B_ONE],
         body: r#"{"deleteOne":{"filter":{"k":1},"sort":{"_id":-1}}}"#,
         others: &[(0, B_DONE)],
         reply: r#"{"status":{"deletedCount":1}}"#,
         items: "looked 6 lost 7 looked 7 wrote 7 ",
     },
     Scene {
-        before: &[A1, B1],
+        before: &[A_ONE, B_ONE],
         body: r#"{"deleteOne":{"filter":{"k":3}}}"#,
         others: &[],
         reply: r#"{"status":{"deletedCount":0}}"#,
         items: "looked 6 ",
     },
     Scene {
-        before: &[A1, B1],
+        before: &[A_ONE, B_ONE],
         body: SET,
         others: &[(1, B_TOUCH), (3, B_TOUCH), (5, B_TOUCH), (7, B_TOUCH)],
         reply: r#"{"status":{"matchedCount":1,"modifiedCount":1},"errors":[{"message":"Lost to other writers: 2>4, 4>5, 5>6, 6>7","errorCode":"CONCURRENCY_FAILURE"}]}"#,
         items: "looked 6 wrote 6 lost 8 looked 8 lost 9 looked 9 lost 10 looked 10 lost 11 ",
     },
     Scene {
-        before: &[A1, B1],
+        before: &[A_ONE, B_ONE],
         body: DELETE,
         others: &[(0, TOUCH), (2, TOUCH), (5, B_TOUCH), (7, B_TOUCH)],
         reply: r#"{"status":{"deletedCount":2}}"#,
         items: "looked 6 lost 7 looked 7 lost 8 looked 8 wrote 8 lost 10 looked 10 lost 11 looked 11 wrote 11 ",
     },
     Scene {
-        before: &[A1, B1],
+        before: &[A_ONE, B_ONE],
         body: INC,
         others: &[(1, B_TEXT)],
         reply: r#"{"status":{"matchedCount":1,"modifiedCount":1},"errors":[{"message":"Update target is of the wrong kind at n","errorCode":"UNSUPPORTED_UPDATE_OPERATION_TARGET"}]}"#,
         items: "looked 6 wrote 6 lost 8 looked 8 ",
     },
     Scene {
-        before: &[A1, B1],
+        before: &[A_ONE, B_ONE],
         body: SET,
         others: &[(1, B_GONE)],
         reply: r#"{"status":{"matchedCount":1,"modifiedCount":1}}"#,
         items: "looked 6 wrote 6 lost 8 looked 8 ",
     },
     Scene {
-        before: &[A1, B1],
+        before: &[A_ONE, B_ONE],
         body: DELETE,
-        others: &[(0, A_GONE), (1, A1)],
+        others: &[(0, A_GONE), (1, A_ONE)],
         reply: r#"{"status":{"deletedCount":2}}"#,
         items: "looked 6 lost 7 looked 8 wrote 8 wrote 9 ",
     },
     Scene {
-        before: &[A1, B1],
+        before: &[A_ONE, B_ONE],
         body: SET,
         others: &[(1, DROP)],
         reply: r#"{"status":{"matchedCount":1,"modifiedCount":1},"errors":[{"message":"Collection c does not exist","errorCode":"COLLECTION_NOT_EXIST"}]}"#,
         items: "looked 6 wrote 6 looked 8 ",
     },
     Scene {
-        before: &[A1, B1],
+        before: &[A_ONE, B_ONE],
         body: DELETE,
         others: &[(1, DROP)],
         reply: r#"{"status":{"deletedCount":1},"errors":[{"message":"Collection c does not exist","errorCode":"COLLECTION_NOT_EXIST"}]}"#,
         items: "looked 6 wrote 6 looked 8 ",
     },
     Scene {
-        before: &[A1, B1],
+        before: &[A_ONE, B_ONE],
         body: DELETE,
         others: &[(0, TOUCH), (1, DROP)],
         reply: r#"{"errors":[{"message":"Collection c does not exist","errorCode":"COLLECTION_NOT_EXIST"}]}"#,
         items: "looked 6 lost 7 looked 8 ",
     },
     Scene {
-        before: &[A1, B1],
+        before: &[A_ONE, B_ONE],
         body: DELETE,
         others: &[(1, B_DONE), (2, DROP)],
         reply: r#"{"status":{"deletedCount":1},"errors":[{"message":"Collection c does not exist","errorCode":"COLLECTION_NOT_EXIST"}]}"#,
         items: "looked 6 wrote 6 lost 8 looked 9 ",
     },
     Scene {
-        before: &[A1, B1],
+        before: &[A_ONE, B_ONE],
         body: r#"{"deleteOne":{"filter":{"k":1}}}"#,
-        others: &[(0, A2)],
+        others: &[(0, A_TWO)],
         reply: r#"{"status":{"deletedCount":1}}"#,
         items: "looked 6 lost 7 looked 7 wrote 7 ",
     },
     Scene {
-        before: &[A1, B1],
+        before: &[A_ONE, B_ONE],
         body: r#"{"deleteOne":{"filter":{"_id":"a"}}}"#,
         others: &[(0, A_GONE)],
         reply: r#"{"status":{"deletedCount":0}}"#,
         items: "looked 6 lost 7 looked 7 ",
     },
     Scene {
-        before: &[A1, B1],
+        before: &[A_ONE, B_ONE],
         body: r#"{"deleteOne":{"filter":{"k":1}}}"#,
         others: &[(0, TOUCH), (2, TOUCH), (4, TOUCH), (6, TOUCH)],
         reply: r#"{"errors":[{"message":"Lost to other writers: 1>3, 3>4, 4>5, 5>6","errorCode":"CONCURRENCY_FAILURE"}]}"#,
@@ -291,7 +291,7 @@ const CROWDS: [Crowd; 7] = [
         end: 170,
         fails: 999,
         scene: Scene {
-            before: &[A1],
+            before: &[A_ONE],
             body: DELETE_TWO,
             others: &[(0, r#"{"insertOne":{"document":{"_id":"c1000","k":2}}}"#)],
             reply: r#"{"status":{"deletedCount":0}}"#,
@@ -304,7 +304,7 @@ const CROWDS: [Crowd; 7] = [
         end: 170,
         fails: 999,
         scene: Scene {
-            before: &[A1],
+            before: &[A_ONE],
             body: DELETE_TWO,
             others: &[(0, r#"{"insertOne":{"document":{"_id":"c1650","k":2}}}"#)],
             reply: r#"{"status":{"deletedCount":1}}"#,
@@ -317,7 +317,7 @@ const CROWDS: [Crowd; 7] = [
         end: 100,
         fails: 9,
         scene: Scene {
-            before: &[A1, B1],
+            before: &[A_ONE, B_ONE],
             body: DELETE,
             others: &[(0, TOUCH)],
             reply: r#"{"errors":[{"message":"Store fault: 0 then 1","errorCode":"STORE_FAULT"}]}"#,
@@ -330,7 +330,7 @@ const CROWDS: [Crowd; 7] = [
         end: 100,
         fails: 10,
         scene: Scene {
-            before: &[A1, B1],
+            before: &[A_ONE, B_ONE],
             body: DELETE,
             others: &[(1, B_TOUCH)],
             reply: r#"{"status":{"deletedCount":1},"errors":[{"message":"Store fault: 0 then 1","errorCode":"STORE_FAULT"}]}"#,
@@ -343,7 +343,7 @@ const CROWDS: [Crowd; 7] = [
         end: 100,
         fails: 999,
         scene: Scene {
-            before: &[A1, B1],
+            before: &[A_ONE, B_ONE],
             body: INC,
             others: &[(0, A_FIVE)],
             reply: r#"{"status":{"matchedCount":2,"modifiedCount":2}}"#,
