@@ -13,7 +13,7 @@ use Rattle.store_core.specs.Numbers.{touches}
 use Rattle.store_core.specs.declared.entry.Entry.{Entry}
 use Rattle.store_core.specs.declared.entry.Entry.TheVariants.{Opened, Created, Dropped, Changed, Failed}
 use Rattle.cmd_tasks.specs.Trace.{Sight, sight, point, writes, entry_at, now, IsWithin}
-use Rattle.cmd_tasks.specs.Attempts.{IsOneOf, comes_between}
+use Rattle.cmd_tasks.specs.Attempts.{comes_between}
 use Rattle.cmd_tasks.specs.Searches.{stored}
 use Rattle.cmd_tasks.specs.Served.{sights}
 use Rattle.cmd_tasks.specs.Session.{AreOrdered, AreWithin, behind, is_work, places, written}

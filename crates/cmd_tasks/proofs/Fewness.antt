@@ -1,5 +1,5 @@
 -- A page shows no more rows than a page of the store has.
-use Rattle.std.proofs.Common.{ℕ, ◌≤◌, Bool, true, false, cond, List, [], ◌∷◌, length, sym, ap, arith, subst, Option}
+use Rattle.std.proofs.Common.{ℕ, ◌≤◌, Bool, true, false, cond, List, [], ◌∷◌, length, ap, arith, Option}
 use Rattle.std.specs.List.{filter}
 use Rattle.json_tree.specs.Tree.{Tree}
 use Rattle.shred_cols.specs.Row.{Version}

@@ -1,13 +1,12 @@
 -- How a command that takes many documents reads where it stands: what is open, what comes next, and how it ends or stops.
 use Rattle.std.proofs.Common.{◌≡◌, ◌⊎◌, ℕ, ℤ, ◌+◌, ◌<◌, ◌≤◌, List, [], ◌∷◌, length, Bool, true, false, Option, Some, None, refl, sym, ap, ◌∙◌, subst, arith, inl, inr, ⊎_elim}
-use Rattle.std.specs.Prelude.{◌&&◌, nat_lt, IfSome, Result, Ok, if◌then◌else◌}
+use Rattle.std.specs.Prelude.{◌&&◌, nat_lt, IfSome, Ok, if◌then◌else◌}
 use Rattle.std.specs.Option.{option_map}
 use Rattle.std.proofs.lemmas.Bool.{lt-ltb, ltb-true}
 use Rattle.json_tree.specs.Tree.{Tree}
 use Rattle.col_keeper.specs.Tables.{Name}
 use Rattle.filter_tree.specs.Filters.{FilterTree}
 use Rattle.filter_tree.specs.View.{filter_tree}
-use Rattle.update_ops.specs.declared.fault.UpdateFault.{UpdateFault}
 use Rattle.view_sort.specs.declared.page.PageState.{PageState}
 use Rattle.reply_env.specs.Reply.{IsRefusalAfter}
 use Rattle.reply_env.specs.declared.reply.ErrorItem.{ErrorItem}
@@ -18,10 +17,10 @@ use Rattle.store_core.specs.State.{State as Base}
 use Rattle.store_core.specs.declared.entry.Change.{Change}
 use Rattle.store_core.specs.declared.entry.Entry.{Entry}
 use Rattle.cmd_grammar.specs.Commands.{CommandTree, update_many, delete_many}
-use Rattle.cmd_tasks.specs.Trace.{Sight, sight, Found, Looks, rows_now}
+use Rattle.cmd_tasks.specs.Trace.{Sight, sight}
 use Rattle.cmd_tasks.specs.Served.{IsPartOf, IsOpen, Next, Answers, Marks, IsToWrite, Stops, Serves, done_by, accepted, one_if_wrote}
 use Rattle.cmd_tasks.specs.Doing.{Doing, updates, deletes, change_of}
-use Rattle.cmd_tasks.specs.Taking.{Shown, Standing, standing, count, settled, settle, win, is_unchanged, replace, look_again, with_look, with_item, shown_alone, Turn, turn, turn_of, turn_on, turn_again, take_with, looks_on, looks_again, attempts, is_done, gives_up}
+use Rattle.cmd_tasks.specs.Taking.{Shown, Standing, standing, count, settled, is_unchanged, turn, turn_of, turn_on, turn_again, take_with, looks_on, looks_again, attempts, is_done, gives_up}
 use Rattle.cmd_tasks.specs.Turns.{IsOn, IsWrite, MarksTurn, Follows, so_far_of, Ends}
 use Rattle.cmd_tasks.specs.Many.{doing_of, taking, taking_for, MayPage, IsWaiting}
 use Rattle.cmd_tasks.specs.Going.{IsStateAt, GoesOnFrom, RefusesAfter}

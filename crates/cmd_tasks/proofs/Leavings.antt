@@ -1,17 +1,14 @@
 -- What is left of a command that takes many documents: each step lowers it.
-use Rattle.std.proofs.Common.{◌≡◌, ◌⊎◌, ℕ, suc, ◌+◌, ◌-◌, ◌*◌, ◌<◌, ◌≤◌, List, [], ◌∷◌, ◌++◌, length, Bool, true, false, Option, Some, None, refl, sym, ap, ◌∙◌, subst, arith, length-append, Vec, Global, reverse}
+use Rattle.std.proofs.Common.{◌≡◌, ℕ, ◌+◌, ◌-◌, ◌*◌, ◌<◌, ◌≤◌, List, [], ◌∷◌, length, Bool, false, Option, Some, None, refl, sym, ap, ◌∙◌, subst, arith, length-append, Vec, Global, reverse}
 use Rattle.std.specs.Prelude.{is_none, IfSome}
-use Rattle.std.specs.List.{filter}
 use Rattle.std.proofs.lemmas.List.{length-reverse, reverse-append}
 use Rattle.json_tree.specs.Tree.{Tree}
 use Rattle.shred_cols.specs.Row.{Version, id_of}
 use Rattle.col_keeper.specs.Tables.{IsShort}
-use Rattle.reply_env.specs.declared.reply.Reply.{Reply}
 use Rattle.reply_env.specs.declared.update_errors.Loss.{Loss}
 use Rattle.store_core.specs.declared.entry.Entry.{Entry}
-use Rattle.cmd_tasks.specs.Rank.{rank_of}
-use Rattle.cmd_tasks.specs.Looking.{Made, GoesUp, Glances, AreShort}
-use Rattle.cmd_tasks.specs.Many.{taking, IsMany, IsStand, IsReadyTo, pages_left, stand_left, tries_left}
+use Rattle.cmd_tasks.specs.Looking.{Made, GoesUp, AreShort}
+use Rattle.cmd_tasks.specs.Many.{taking, IsStand, pages_left, stand_left, tries_left}
 use Rattle.cmd_tasks.specs.Going.{IsCounted, waiting_left, unsettled_left, GoesReady}
 use Rattle.cmd_tasks.specs.ManySteps.{HasPage, HasFirst, LosesOne, EndsAfter}
 use Rattle.cmd_tasks.specs.Moves.{asked, IsReady, left, Steps}
@@ -24,7 +21,6 @@ use Rattle.cmd_tasks.specs.declared.work.State.TheVariants.{Paging, Trying, Retr
 use Rattle.cmd_tasks.specs.declared.work.Moved.{Moved}
 use Rattle.cmd_tasks.specs.declared.work.Moved.TheVariants as m
 use Rattle.cmd_tasks.specs.declared.trace.Item.{Item}
-use Rattle.cmd_tasks.specs.declared.trace.Item.TheVariants.{Lost}
 use Rattle.cmd_tasks.proofs.Glances.{lost_here}
 use Rattle.cmd_tasks.proofs.Shorts.{join_short}
 

@@ -1,5 +1,5 @@
 -- A page of a command that takes many documents: what it shows is to be taken next.
-use Rattle.std.proofs.Common.{◌≡◌, ℕ, ℤ, List, [], ◌∷◌, ◌++◌, map, reverse, Bool, true, false, Option, Some, None, refl, sym, ap, ◌∙◌, subst, Vec, Global}
+use Rattle.std.proofs.Common.{◌≡◌, ℕ, ℤ, List, [], ◌∷◌, ◌++◌, map, reverse, Bool, false, Option, None, refl, sym, ap, ◌∙◌, subst, Vec, Global}
 use Rattle.std.specs.Prelude.{is_none, IfSome}
 use Rattle.std.proofs.lemmas.List.{reverse-reverse}
 use Rattle.json_tree.specs.Tree.{Tree}
@@ -24,7 +24,7 @@ use Rattle.cmd_tasks.specs.Turns.{IsWrite, MarksTurn, Follows}
 use Rattle.cmd_tasks.specs.Many.{doing_of, taking, MayPage, IsWaiting, IsStanding}
 use Rattle.cmd_tasks.specs.Going.{GoesOnFrom}
 use Rattle.cmd_tasks.specs.ManySteps.{HasPage, TellsAfter}
-use Rattle.cmd_tasks.specs.Moves.{IsDoneAt, IsUnderWay, Leads, stands_at}
+use Rattle.cmd_tasks.specs.Moves.{IsUnderWay, Leads, stands_at}
 use Rattle.cmd_tasks.specs.declared.work.Many.{Many}
 use Rattle.cmd_tasks.specs.declared.work.Stand.{Stand}
 use Rattle.cmd_tasks.specs.declared.work.State.TheVariants.{Paging}

@@ -1,5 +1,5 @@
 -- A command that takes many documents looks again at the one on which its attempt was lost.
-use Rattle.std.proofs.Common.{◌≡◌, ℕ, ℤ, ◌+◌, ◌<◌, ◌≤◌, List, [], ◌∷◌, ◌++◌, map, take, reverse, length, Bool, true, false, Option, Some, None, refl, sym, ap, ◌∙◌, subst, arith, inr}
+use Rattle.std.proofs.Common.{◌≡◌, ℕ, ℤ, ◌<◌, List, [], ◌∷◌, ◌++◌, map, reverse, length, Bool, true, false, Option, Some, None, refl, sym, ap, ◌∙◌, subst, arith, inr, ⊎_elim, ◌⊎◌}
 use Rattle.std.specs.Prelude.{IfSome, if◌then◌else◌}
 use Rattle.std.proofs.lemmas.List.{reverse-append, length-reverse}
 use Rattle.json_tree.specs.Tree.{Tree}
@@ -26,8 +26,8 @@ use Rattle.cmd_tasks.specs.Taking.{Shown, Standing, settle, matching, shown_alon
 use Rattle.cmd_tasks.specs.Turns.{IsWrite, MarksTurn, LooksAlone, IsAlone, Follows}
 use Rattle.cmd_tasks.specs.Many.{doing_of, taking, MayPage, IsWaiting, IsStanding, IsRetried}
 use Rattle.cmd_tasks.specs.Going.{GoesOnFrom}
-use Rattle.cmd_tasks.specs.ManySteps.{matching_row, pairs_of, HasFirst, EndsAfter, TellsAfter}
-use Rattle.cmd_tasks.specs.Moves.{IsDoneAt, IsUnderWay, Leads, EndsSo, EndsMarked, stands_at}
+use Rattle.cmd_tasks.specs.ManySteps.{matching_row, pairs_of, HasFirst, Retakes, EndsAfter, TellsAfter}
+use Rattle.cmd_tasks.specs.Moves.{Steps, IsUnderWay, Leads, EndsSo, EndsMarked, stands_at}
 use Rattle.cmd_tasks.specs.declared.work.Many.{Many}
 use Rattle.cmd_tasks.specs.declared.work.Stand.{Stand}
 use Rattle.cmd_tasks.specs.declared.work.State.TheVariants.{Retrying}
@@ -35,8 +35,9 @@ use Rattle.cmd_tasks.specs.declared.work.Moved.{Moved}
 use Rattle.cmd_tasks.specs.declared.work.Moved.TheVariants as m
 use Rattle.cmd_tasks.specs.declared.trace.Item.{Item}
 use Rattle.cmd_tasks.specs.declared.trace.Item.TheVariants.{Looked, Wrote, Lost, Faulted}
-use Rattle.cmd_tasks.proofs.Glances.{saw, failed_stops}
+use Rattle.cmd_tasks.proofs.Glances.{saw, looked_here, failed_stops}
 use Rattle.cmd_tasks.proofs.Waiting.{Waits, waits, is_waiting, waits_again, waits_over, waits_settled}
+use Rattle.cmd_tasks.proofs.Leavings.{again_steps}
 use Rattle.cmd_tasks.proofs.Following.{retrying_turn, settled_again, Reads, reads, many_stopped, goes_leads}
 
 -- what the item shows is the document, if it matches
@@ -64,6 +65,14 @@ looked_past H H' (Looked a from to page) at after up pairs is same here = saw H 
 looked_past H H' (Wrote a) at after up pairs is same here = absurd is
 looked_past H H' (Lost a read found) at after up pairs is same here = absurd is
 looked_past H H' (Faulted a low high) at after up pairs is same here = absurd is
+
+pub retakes_steps : (k low high : ℕ) (H H' : List Entry) (many : Many) (stand : Stand) (id : Tree) (at : ℕ) (after up : Tree) (row : Option Version) (o : Moved) → H' ≡ H → at ≡ length H → Retakes at after up many stand row o ⊎ (o ≡ m.NoMemory)
+    → Steps k low high (Retrying many stand id) H H' o
+retakes_steps k low high H H' many stand id at after up row o same here h = ⊎_elim
+    (λ (r : Retakes at after up many stand row o). again_steps k low high H H' many stand r.new id r.item (matching_row (filter_tree many.wanted.filter) row) o
+    (looked_here k low high H H' r.item at (Some after) (Some up) (pairs_of (matching_row (filter_tree many.wanted.filter) row)) same here r.looks) r.has r.ready)
+    (λ (e : o ≡ m.NoMemory). subst (Steps k low high (Retrying many stand id) H H') (sym e) same)
+    h
 
 module _ (base : Base) (coll : Name) (k : ℕ) (moment : ℤ) (many : Many) (stand : Stand) (id : Tree) (may : MayPage many.doing many.page.value) (few : length stand.lost.items < 4) (H H' : List Entry) (earlier : List Sight)
     (way : IsUnderWay base coll k moment (Retrying many stand id) earlier) where
@@ -194,6 +203,13 @@ module _ (base : Base) (coll : Name) (k : ℕ) (moment : ℤ) (many : Many) (sta
         (subst (λ (z : Standing). IsWaiting base coll z (s ∷ earlier)) (sym stands) (is_waiting base coll (settle doing (retaken row)) (s ∷ earlier) (waits_settled base coll doing (retaken row).queue (retaken row) (s ∷ earlier) (waits_row row stood))))
         (Retrying many stand id) o refl
         (subst (λ (z : Standing). GoesOnFrom many item z o) (sym stands) (goes (retaken row) (standing_of row new keyed_first has) (replaced_again (matching f first.x.id row))))
+
+  pub retakes_leads : (at : ℕ) (after up : Tree) (row : Option Version) (o : Moved) → H' ≡ H → at ≡ length H → after ≡ id → up ≡ id → Lives coll (replay base H) → version (replay base H) coll id ≡ row → IfSome row (λ v. id_of v.doc ≡ id)
+      → Retakes at after up many stand row o ⊎ (o ≡ m.NoMemory) → Leads base coll k moment H' (Retrying many stand id) earlier o
+  retakes_leads at after up row o same here after_is up_is lives there keyed h = ⊎_elim
+      (λ (r : Retakes at after up many stand row o). again_leads r.item at after up row same here after_is up_is lives there keyed r.looks r.new o r.has r.goes)
+      (λ (e : o ≡ m.NoMemory). subst (Leads base coll k moment H' (Retrying many stand id) earlier) (sym e) tt)
+      h
 
   -- ---- it stops there
 

@@ -1,7 +1,6 @@
 -- An attempt of a command that takes many documents, on the first that waits.
-use Rattle.std.proofs.Common.{◌≡◌, ◌≢◌, ◌⊎◌, ℕ, ℤ, ◌+◌, ◌<◌, ◌≤◌, List, [], ◌∷◌, ◌++◌, map, drop, reverse, length, Bool, true, false, Option, Some, None, refl, sym, ap, ◌∙◌, subst, arith, inl, inr, ⊎_elim, length-append}
-use Rattle.std.specs.Option.{option_map}
-use Rattle.std.specs.List.{list_any, AllByRecursion as Each}
+use Rattle.std.proofs.Common.{◌≡◌, ◌≢◌, ◌⊎◌, ℕ, ℤ, ◌<◌, ◌≤◌, List, [], ◌∷◌, ◌++◌, map, drop, reverse, length, false, Option, Some, refl, sym, ap, ◌∙◌, subst, arith, inl, inr, ⊎_elim}
+use Rattle.std.specs.List.{list_any}
 use Rattle.std.proofs.lemmas.List.{reverse-append, length-reverse, reverse-reverse}
 use Rattle.json_tree.specs.Tree.{Tree}
 use Rattle.shred_cols.specs.Row.{Version}
@@ -28,15 +27,15 @@ use Rattle.cmd_tasks.specs.Looking.{Refuses}
 use Rattle.cmd_tasks.specs.Doing.{Doing}
 use Rattle.cmd_tasks.specs.Taking.{Shown, Standing, settle, win, lose, Turn, turn, attempts}
 use Rattle.cmd_tasks.specs.Turns.{IsOn, IsWrite, MarksTurn, Follows, so_far_of, Ends}
-use Rattle.cmd_tasks.specs.Many.{doing_of, taking, MayPage, IsWaiting, IsStanding, IsAttempted, IsRetried, is_written}
+use Rattle.cmd_tasks.specs.Many.{doing_of, taking, MayPage, IsWaiting, IsStanding, IsAttempted}
 use Rattle.cmd_tasks.specs.Going.{IsCounted, GoesOnFrom}
 use Rattle.cmd_tasks.specs.ManySteps.{LosesOne, lost_with, EndsAfter, TellsAfter}
-use Rattle.cmd_tasks.specs.Moves.{IsDoneAt, IsUnderWay, Leads, EndsSo, EndsMarked, stands_at}
+use Rattle.cmd_tasks.specs.Moves.{IsUnderWay, Leads, EndsSo, EndsMarked, stands_at}
 use Rattle.cmd_tasks.specs.declared.work.Many.{Many}
 use Rattle.cmd_tasks.specs.declared.work.Stand.{Stand}
 use Rattle.cmd_tasks.specs.declared.work.Attempt.{Attempt}
 use Rattle.cmd_tasks.specs.declared.work.State.{State}
-use Rattle.cmd_tasks.specs.declared.work.State.TheVariants.{Trying, Retrying}
+use Rattle.cmd_tasks.specs.declared.work.State.TheVariants.{Trying}
 use Rattle.cmd_tasks.specs.declared.work.Moved.{Moved}
 use Rattle.cmd_tasks.specs.declared.work.Moved.TheVariants as m
 use Rattle.cmd_tasks.specs.declared.trace.Item.{Item}

@@ -286,6 +286,7 @@ pub(crate) fn look_again<K: Keeper>(
     ensures work { K.called store.new.keeper ≤ K.called store.old.keeper + 1 }
     ensures lawful { IsLawful store.new }
 {
+    store.journal_len();
     if many.wanted.plan.is_none() {
         return Moved::NoMemory;
     }

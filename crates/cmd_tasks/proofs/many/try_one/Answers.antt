@@ -27,7 +27,7 @@ pub go_on-requires-clause-stand : goal.go_on-requires-clause-stand
 go_on-requires-clause-stand g c = counted_stand c.args.stand c.counted.result c.args.attempt.id c.counted.ensures c.requires.ready.1 c.requires.ready.2
 
 pub counted-requires : goal.counted-requires
-counted-requires g c = let a = c.requires.ready.1.few in let b = c.requires.ready.1.changed in (a, omega arith, omega arith)
+counted-requires g c = let a = c.requires.ready.1.few in let b = c.requires.ready.1.changed in record { few = (a, omega arith, omega arith) }
 
 pub returns-in-Written-clause-steps : goal.returns-in-Written-clause-steps
 returns-in-Written-clause-steps g c =
@@ -71,7 +71,7 @@ pub returns-in-VersionsSpent-clause-steps : goal.returns-in-VersionsSpent-clause
 returns-in-VersionsSpent-clause-steps g c =
     let told = c.in-VersionsSpent.ensures.answers in
     ended_steps c.args.by _ _ _ _ (Trying c.args.many c.args.stand c.args.attempt) c.args.many.doing c.args.stand c.marked-in-VersionsSpent.result c.ends_after-in-VersionsSpent.result
-    (marked_steps c.args.by _ _ _ _ (Trying c.args.many c.args.stand c.args.attempt) c.in-VersionsSpent.at (Some c.in-Ok.ends.after) (Some c.in-Ok.ends.up_to) (Refuses errors.versions_spent) c.marked-in-VersionsSpent.result told.0.1 told.0.0 (c.marked-in-VersionsSpent.ensures errors.versions_spent c.versions_spent.ensures)) c.ends_after-in-VersionsSpent.ensures
+    (marked_steps c.args.by _ _ _ _ (Trying c.args.many c.args.stand c.args.attempt) c.in-VersionsSpent.at (Some c.in-Ok.ends.after) (Some c.in-Ok.ends.up_to) (Refuses errors.versions_spent) c.marked-in-VersionsSpent.result told.0.1 told.0.0 (c.marked-in-VersionsSpent.ensures errors.versions_spent c.versions_spent-error.ensures)) c.ends_after-in-VersionsSpent.ensures
 
 pub returns-in-VersionsSpent-clause-leads : goal.returns-in-VersionsSpent-clause-leads
 returns-in-VersionsSpent-clause-leads g c = λ base told_base moment trace placed way.
@@ -79,7 +79,7 @@ returns-in-VersionsSpent-clause-leads g c = λ base told_base moment trace place
     let lawful = c.journal_len.ensures.lawful base told_base in
     try_marked base c.args.coll.now c.args.by moment c.args.many c.args.stand c.args.attempt c.requires.ready.0.may c.requires.ready.2 c.args.store.now.journal trace placed lawful.0 (c.journal_len.ensures.apart base told_base) way
     c.write.new.self.journal c.in-VersionsSpent.at c.in-Ok.ends.after c.in-Ok.ends.up_to errors.versions_spent c.marked-in-VersionsSpent.result c.ends_after-in-VersionsSpent.result c.in-Ok.ensures.0 c.in-Ok.ensures.1 told.0.1 told.0.0
-    (inl (c.journal_len.ensures.next base told_base ∙ told.1, refl)) (c.marked-in-VersionsSpent.ensures errors.versions_spent c.versions_spent.ensures) c.ends_after-in-VersionsSpent.ensures
+    (inl (c.journal_len.ensures.next base told_base ∙ told.1, refl)) (c.marked-in-VersionsSpent.ensures errors.versions_spent c.versions_spent-error.ensures) c.ends_after-in-VersionsSpent.ensures
 
 pub returns-in-Fault-clause-steps : goal.returns-in-Fault-clause-steps
 returns-in-Fault-clause-steps g c =
