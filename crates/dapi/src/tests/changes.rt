@@ -229,7 +229,8 @@ run --collection=c | last=9223372036854775803
 
 // Behind the insertions of 130 documents: matches of several pages of the store, 20 of them at the end of a page, and a
 // refusal on the second page.
-pub(super) const CHANGES: &str = r#"/v1/ks/c {"updateMany":{"filter":{"k":{"$gte":60}},"update":{"$set":{"t":1}}}}
+pub(super) const CHANGES: &str =
+    r#"/v1/ks/c {"updateMany":{"filter":{"k":{"$gte":60}},"update":{"$set":{"t":1}}}}
 /v1/ks/c {"updateMany":{"filter":{"k":{"$gte":60}},"update":{"$set":{"t":1}},"options":{"pageState":"AQAAAAAAAAAUAoAAAAAAAAAESFhhcKfcAAA="}}}
 /v1/ks/c {"updateMany":{"filter":{"k":{"$gte":44,"$lt":64}},"update":{"$set":{"t":2}}}}
 /v1/ks/c {"updateMany":{"filter":{"$or":[{"k":{"$gte":44,"$lt":64}},{"k":129}]},"update":{"$set":{"t":2}}}}
@@ -241,7 +242,8 @@ pub(super) const CHANGES: &str = r#"/v1/ks/c {"updateMany":{"filter":{"k":{"$gte
 /v1/ks/c {"countDocuments":{}}
 "#;
 
-pub(super) const CHANGED: &str = r#"{"status":{"matchedCount":20,"modifiedCount":20,"moreData":true,"nextPageState":"AQAAAAAAAAAUAoAAAAAAAAAESFhhcKfcAAA="}}
+pub(super) const CHANGED: &str =
+    r#"{"status":{"matchedCount":20,"modifiedCount":20,"moreData":true,"nextPageState":"AQAAAAAAAAAUAoAAAAAAAAAESFhhcKfcAAA="}}
 {"status":{"matchedCount":20,"modifiedCount":20,"moreData":true,"nextPageState":"AQAAAAAAAAAoAoAAAAAAAAAFXeanebusAAA="}}
 {"status":{"matchedCount":20,"modifiedCount":20}}
 {"status":{"matchedCount":20,"modifiedCount":0,"moreData":true,"nextPageState":"AQAAAAAAAAAUAoAAAAAAAAADakz2NjGcAAA="}}
