@@ -1,5 +1,5 @@
 -- How a deletion searches in a round, and its attempts.
-use Rattle.std.proofs.Common.{◌≡◌, ◌≢◌, ℕ, ℤ, suc, ◌+◌, ◌-◌, ◌<◌, ◌≤◌, List, [], ◌∷◌, ◌++◌, map, take, drop, reverse, length, true, false, Option, Some, None, refl, sym, ap, ◌∙◌, subst, arith, inl, inr, ⊎_elim, ◌⊎◌, length-append}
+use Rattle.std.proofs.Common.{◌≡◌, ◌≢◌, ℕ, ℤ, ◌<◌, ◌≤◌, List, [], ◌∷◌, ◌++◌, take, drop, reverse, length, true, false, Option, Some, None, refl, sym, ap, ◌∙◌, subst, arith, inl, inr, ⊎_elim, ◌⊎◌, length-append}
 use Rattle.std.specs.Prelude.{⊤, MatchOption, slice_get}
 use Rattle.std.specs.Option.{option_map}
 use Rattle.std.specs.List.{list_any}
@@ -29,7 +29,7 @@ use Rattle.cmd_tasks.specs.Served.{IsPartOf, IsFound, Serves, Marks, IsToWrite, 
 use Rattle.cmd_tasks.specs.Pages.{found_row}
 use Rattle.cmd_tasks.specs.Placed.{IsPlaced}
 use Rattle.cmd_tasks.specs.Looking.{Made, AreShort, Refuses}
-use Rattle.cmd_tasks.specs.Searching.{IsFresh, IsSearching, IsSeen, IsUnended, IsEnded, has_too_many, Seeks}
+use Rattle.cmd_tasks.specs.Searching.{IsSearching, IsSeen, IsUnended, IsEnded, has_too_many, Seeks}
 use Rattle.cmd_tasks.specs.Deleting.{deleting, IsDeletion, IsPicked, Picks, LosesDeletion, lost_with}
 use Rattle.cmd_tasks.specs.Moves.{Steps, Leads, IsUnderWay, EndsSo, EndsMarked}
 use Rattle.cmd_tasks.specs.declared.work.Deletion.{Deletion}

@@ -119,10 +119,10 @@ module _ (base : Base) (coll : Name) (k : ℕ) (moment : ℤ) (f : FilterTree) w
   many_stopped c doing page reads earlier s error reply begun stops refuses = ⊎_elim
       (λ (r : IsRefusalAfter (so_far_of doing (stands_for doing page earlier)) error reply). inr (inl (error, (begun.0, begun.1, stops), subst (λ (z : Option SoFar). IsRefusalAfter z error reply) (sym (reads.done earlier)) r)))
       (λ (e : reply ≡ NoMemory (stands_for doing page earlier).modified).
-          let a = reads.counts earlier begun.0 in
-          let b = stops_wrote base coll k moment _ _ s.item s error stops in
-          let z : (stands_for doing page earlier).modified ≡ one_if_wrote s.item + accepted earlier = omega arith in
-          inr (inr (inr (error, (begun.0, begun.1, stops)), e ∙ ap NoMemory z)))
+      let a = reads.counts earlier begun.0 in
+      let b = stops_wrote base coll k moment _ _ s.item s error stops in
+      let z : (stands_for doing page earlier).modified ≡ one_if_wrote s.item + accepted earlier = omega arith in
+      inr (inr (inr (error, (begun.0, begun.1, stops)), e ∙ ap NoMemory z)))
       refuses
 
 -- ---- it goes on behind an item

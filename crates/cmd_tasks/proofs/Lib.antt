@@ -26,6 +26,10 @@ pub mod Contests
 mod Ascent
 mod Covering
 mod Client
+mod Stepping
+mod Tallying
+mod Reaching
+mod Telling
 mod Deletions
 mod Settling
 mod Goings

@@ -183,9 +183,9 @@ module _ (base : Base) (coll : Name) (k : ℕ) (moment : ℤ) (many : Many) (sta
     standing_of None new id_is has = over_standing new has
     standing_of (Some v) new id_is has = elim (matches f v.doc) as (λ b. HasFirst stand (if b then Some v else None) new
         → IsStanding new (replace base coll f s (if b then with_id v ∷ [] else []) is.rest st) (replace base coll f s (if b then with_id v ∷ [] else []) is.rest st).queue) [
-      | true ↦ λ h. first_standing new v id_is h
-      | false ↦ λ h. over_standing new h
-    ] has
+          | true ↦ λ h. first_standing new v id_is h
+          | false ↦ λ h. over_standing new h
+        ] has
 
     abbrev WaitsSo : Standing → Type 0
     WaitsSo z = Waits base coll z.from z.is_whole z.queue (s ∷ earlier)

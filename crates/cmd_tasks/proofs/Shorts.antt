@@ -1,7 +1,7 @@
 -- Rows whose ids are short stay so where they are picked out, joined, sorted and cut.
 use Rattle.std.proofs.Common.{◌≡◌, ℕ, zero, suc, Bool, true, false, cond, List, [], ◌∷◌, ◌++◌, take, sym, subst, Result, Ok, Err, Vec, Global, Option}
 use Rattle.std.specs.Prelude.{IfOk}
-use Rattle.std.specs.List.{filter, AllByRecursion as Each}
+use Rattle.std.specs.List.{filter}
 use Rattle.std.proofs.lemmas.List.Elements.{All-from_recursion, recursion_from_All}
 use Rattle.std.proofs.lemmas.List.Sorted.{All-permutation}
 use Rattle.json_tree.specs.Tree.{Tree}

@@ -206,8 +206,11 @@ module _ (base : Base) (coll : Name) (k : ℕ) (moment : ℤ) (many : Many) (sta
       )
       go (m.Ends i r) t' = subst (λ (z : Item). Leads base coll k moment H' (Trying many stand attempt) earlier (m.Ends z r)) (sym t'.0) (⊎_elim
           (λ (four : (4 ≤ length (lost_with stand loss)) × TellsAfter many.doing stand (errors.lost_writes (lost_with stand loss)) r). ⊎_elim
-          (λ (told : IsRefusalAfter (so_far_of doing after) (errors.lost_writes (lost_with stand loss)) r). inl (part, tells.ends (s ∷ earlier) r
-          (subst (λ (x : Turn). Ends doing many.page.value after x r) (sym (lost_turn doing after first is.rest refl is.queue (let a = size in let b = four.0 in omega arith))) (subst (λ (l : List Loss). IsRefusalAfter (so_far_of doing after) (errors.lost_writes l) r) as_lost told))))
+          (λ (told : IsRefusalAfter (so_far_of doing after) (errors.lost_writes (lost_with stand loss)) r). inl (
+            part,
+            tells.ends (s ∷ earlier) r
+                (subst (λ (x : Turn). Ends doing many.page.value after x r) (sym (lost_turn doing after first is.rest refl is.queue (let a = size in let b = four.0 in omega arith))) (subst (λ (l : List Loss). IsRefusalAfter (so_far_of doing after) (errors.lost_writes l) r) as_lost told)),
+          ))
           (λ (e : r ≡ NoMemory after.modified). cut r (e ∙ ap NoMemory (sym is.stands.modified)))
           (four.1 after is.stands.matched is.stands.modified))
           (λ (e : r ≡ NoMemory stand.modified). cut r e)

@@ -141,8 +141,8 @@ module _ (base : Base) (coll : Name) where
     passed = h.passed.1;
     written = λ id w. ⊎_elim
         (λ (t : bytes_eq coll coll && eq_by_cmp id_cmp id first.x.id ≡ true).
-            let tie : Ties id first.x.id = (both_of (bytes_eq coll coll) (eq_by_cmp id_cmp id first.x.id) t).1 in
-            (passed_tied from whole id first.x.id tie h.passed.0, weaker (λ z. IsBelow first.x.id z.x.id) (λ z. IsBelow id z.x.id) rest (λ z b. tied_below id first.x.id z.x.id tie b) h.ascends.0))
+        let tie : Ties id first.x.id = (both_of (bytes_eq coll coll) (eq_by_cmp id_cmp id first.x.id) t).1 in
+        (passed_tied from whole id first.x.id tie h.passed.0, weaker (λ z. IsBelow first.x.id z.x.id) (λ z. IsBelow id z.x.id) rest (λ z b. tied_below id first.x.id z.x.id tie b) h.ascends.0))
         (λ (o : is_written coll id sights ≡ true). let z = h.written id o in (z.0, z.1.1))
         (or_of _ _ (sym (written_with s sights id (Some (Changed k coll first.x.id change before tx)) e) ∙ w));
   }
@@ -198,9 +198,11 @@ module _ (base : Base) (coll : Name) where
           (weaker (IsInside rs from (end_of s.item)) (λ x. by_from (end_of s.item) (is_none (end_of s.item)) x.id ≡ true) (shown_by base coll f s) (λ x z. passed_with (end_of s.item) x.id z.within) all.0);
       written = λ id w.
           let p : by_from from false id ≡ true = (h.written id (sym (written_with s sights id None e) ∙ w)).0 in
-          let b = passed_by from id p in
-          (passed_more from (end_of s.item) rs s.item id look.1 refl full p, each_shown s (λ x. IsBelow id x.id) (shown_by base coll f s)
-          (weaker (IsInside rs from (end_of s.item)) (λ x. IsBelow id x.id) (shown_by base coll f s) (λ x z. up_to_after id b.0 x.id b.2 (subst (λ (a : Option Tree). is_after a x.id ≡ true) b.1 z.behind)) all.0));
+          let b = passed_by from id p in (
+            passed_more from (end_of s.item) rs s.item id look.1 refl full p,
+            each_shown s (λ x. IsBelow id x.id) (shown_by base coll f s)
+                (weaker (IsInside rs from (end_of s.item)) (λ x. IsBelow id x.id) (shown_by base coll f s) (λ x z. up_to_after id b.0 x.id b.2 (subst (λ (a : Option Tree). is_after a x.id ≡ true) b.1 z.behind)) all.0),
+          );
     }
       where
         rs : Rows

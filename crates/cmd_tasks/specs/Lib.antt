@@ -21,3 +21,4 @@ pub mod Going
 pub mod ManySteps
 pub mod Stands
 pub mod Joined
+pub mod Tally

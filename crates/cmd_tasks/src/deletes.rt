@@ -85,13 +85,7 @@ pub(crate) fn seek<K: Keeper>(
 }
 
 /// An attempt was lost: a new round begins, or four were lost.
-fn deletion_lost(
-    alloc: Global,
-    at: u64,
-    deletion: Deletion,
-    read: u64,
-    found: Option<u64>,
-) -> Moved
+fn deletion_lost(alloc: Global, at: u64, deletion: Deletion, read: u64, found: Option<u64>) -> Moved
     ensures { LosesDeletion at read found deletion result }
 {
     let item = Item::Lost { at, read, found };

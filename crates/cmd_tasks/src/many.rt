@@ -88,14 +88,7 @@ pub(crate) fn list_more<K: Keeper>(
 }
 
 /// The attempt was lost: its document is looked at again, or four were lost.
-fn attempt_lost(
-    alloc: Global,
-    at: u64,
-    many: Many,
-    stand: Stand,
-    id: DocId,
-    loss: Loss,
-) -> Moved
+fn attempt_lost(alloc: Global, at: u64, many: Many, stand: Stand, id: DocId, loss: Loss) -> Moved
     ensures { LosesOne at many stand id loss result }
 {
     let item = Item::Lost {
@@ -171,7 +164,12 @@ pub(crate) fn try_one<K: Keeper>(
     let Ends { after, up_to } = ends;
     match store.write(alloc, by, coll, &id, Some(read), change) {
         WriteOutcome::Written { at, tx: _ } => {
-            go_on(alloc, Item::Wrote { at }, many, counted(alloc, stand, id, 1))
+            go_on(
+                alloc,
+                Item::Wrote { at },
+                many,
+                counted(alloc, stand, id, 1),
+            )
         }
         WriteOutcome::Lost { at, found } => {
             attempt_lost(alloc, at, many, stand, id, Loss { read, found })
@@ -200,7 +198,9 @@ fn matching(wanted: &Wanted, row: Option<Row>) -> Option<Row>
     let Some(row) = row else {
         return None;
     };
-    let Some(plan) = &wanted.plan else { unreachable!() };
+    let Some(plan) = &wanted.plan else {
+        unreachable!()
+    };
     if is_match(&wanted.filter, plan, &row) {
         Some(row)
     } else {
@@ -235,14 +235,7 @@ fn put_first(alloc: Global, stand: Stand, row: Option<Row>) -> Result<Stand, All
 }
 
 /// The row that was looked at again is taken, or passed over.
-fn retaken(
-    alloc: Global,
-    at: u64,
-    ends: Ends,
-    many: Many,
-    stand: Stand,
-    row: Option<Row>,
-) -> Moved
+fn retaken(alloc: Global, at: u64, ends: Ends, many: Many, stand: Stand, row: Option<Row>) -> Moved
     requires many { IsMany many }
     requires plan { IsSome many.wanted.plan }
     requires stand { IsStand stand }

@@ -11,9 +11,7 @@ ghost use Rattle.cmd_tasks.specs.Served.{IsServed};
 ghost use Rattle.cmd_tasks.specs.Moves.{Steps, Promises, IsReady, Begins, Fits, left, accepted_by};
 ghost use Rattle.cmd_tasks.specs.Stands.{StandsOn, IsSame, Adds, IfDone};
 
-use crate::begin::{
-    choosing, deleting_many, listing, seeking, selecting, updating_many,
-};
+use crate::begin::{choosing, deleting_many, listing, seeking, selecting, updating_many};
 use crate::deletes::{delete, seek};
 use crate::finds::{list, select};
 use crate::many::{list_more, look_again, try_one};
@@ -107,9 +105,8 @@ fn accepted_by(state: &State) -> u64
     ensures { result ≡ accepted_by state.now }
 {
     match state {
-        State::Paging { stand, .. }
-        | State::Trying { stand, .. }
-        | State::Retrying { stand, .. } => stand.modified,
+        State::Paging { stand, .. } | State::Trying { stand, .. } | State::Retrying { stand, .. } =>
+            stand.modified,
         _ => 0,
     }
 }

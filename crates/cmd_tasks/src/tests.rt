@@ -257,6 +257,64 @@ fn requests_see_and_do_what_they_say(rt: HostRuntime) -> Result<(), Fail> {
     Ok(())
 }
 
+// The numbers that a look shows.
+fn add_numbers(alloc: Global, numbers: &mut String, item: &Item) -> Result<(), Fail> {
+    if let Item::Looked { shown, .. } = item {
+        for place in 0..shown.len() {
+            let number = shown[place].1;
+            numbers.push_str(&format!(in alloc; "{number} ")?)?;
+        }
+    }
+    Ok(())
+}
+
+// The numbers that the looks of a request show, if it is one.
+fn numbers_in(alloc: Global, store: &mut Store<MemKeeper>, body: &str) -> Result<String, Fail> {
+    let mut numbers = String::new(alloc);
+    let Some(served) = asked(alloc, store, "c", body)? else {
+        return Ok(numbers);
+    };
+    for place in 0..served.trace.len() {
+        if let Some(item) = served.trace.item(place) {
+            add_numbers(alloc, &mut numbers, item)?;
+        }
+    }
+    Ok(numbers)
+}
+
+// Documents a and b, and the numbers shown behind a write more of each.
+fn numbers_told(alloc: Global, store: &mut Store<MemKeeper>) -> Result<String, Fail> {
+    told(alloc, store, "c", ROWS[0].1)?;
+    told(alloc, store, "c", ROWS[9].1)?;
+    told(alloc, store, "c", INCREMENT)?;
+    let mut numbers = numbers_in(alloc, store, r#"{"find":{}}"#)?;
+    told(
+        alloc,
+        store,
+        "c",
+        r#"{"updateMany":{"update":{"$set":{"n":2}}}}"#,
+    )?;
+    numbers.push_str(numbers_in(
+        alloc,
+        store,
+        r#"{"updateMany":{"update":{"$set":{"n":2}}}}"#,
+    )?
+    .as_str())?;
+    Ok(numbers)
+}
+
+#[test]
+fn looks_tell_numbers(rt: HostRuntime) -> Result<(), Fail> {
+    let alloc = rt.alloc();
+    let Some(mut store) = opened(alloc, 99, 0)? else {
+        panic!(rt; "not opened");
+    };
+    let numbers = numbers_told(alloc, &mut store);
+    let _keeper = store.into_keeper();
+    assert_eq!(rt; numbers?.as_str(), "3 2 3 4 ");
+    Ok(())
+}
+
 // Where no number is left, a write is told so, also where its collection is gone; a read isn't.
 const SPENT: [Row; 3] = [
     (

@@ -1,6 +1,7 @@
 // Rows of changes of many documents, in the form of the other rows.
 
-// Pages of 20 that are updated and deleted, unchanged documents among them, a refusal behind 19 writes, failed calls.
+// Pages of 20 that are updated and deleted, unchanged documents among them, a refusal behind 19 writes; refusals behind
+// documents that weren't changed, and the order of refusals; failed calls, and numbers that end.
 pub(super) const MANY: &str = r#"run --collection=c
 /v1/ks/c {"insertOne":{"document":{"_id":"d00","n":0}}}
 /v1/ks/c {"insertOne":{"document":{"_id":"d01","n":1}}}
@@ -142,23 +143,112 @@ run --collection=c | last=9223372036854775803
 {"status":{"matchedCount":1,"modifiedCount":1},"errors":[{"message":"No version numbers are left","errorCode":"VERSIONS_SPENT"}]}
 {"errors":[{"message":"No version numbers are left","errorCode":"VERSIONS_SPENT"}]}
 {"status":{"deletedCount":0}}
+---
+run --collection=c
+/v1/ks/c {"insertOne":{"document":{"_id":1,"n":5}}}
+/v1/ks/c {"insertOne":{"document":{"_id":2,"n":1}}}
+/v1/ks/c {"insertOne":{"document":{"_id":3,"n":[1]}}}
+/v1/ks/c {"insertOne":{"document":{"_id":4,"n":2}}}
+/v1/ks/c {"updateMany":{"update":{"$max":{"n":4}}}}
+/v1/ks/c {"updateMany":{"update":{"$max":{"n":4}}}}
+/v1/ks/c {"updateMany":{"filter":{"n":{"$lt":9}},"update":{"$mul":{"n":50000000000000000000}}}}
+/v1/ks/c {"find":{}}
+/v1/ks/c {"updateMany":{"filter":{"n":{"$lt":9}},"update":{"$currentDate":{"at":true},"$unset":{"n":1}}}}
+/v1/ks/c {"updateMany":{"update":{"$currentDate":{"at":true}}}}
+/v1/ks/c {"find":{}}
+/v1/ks/c {"updateMany":{"update":{"$setOnInsert":{"k":1}},"options":{"pageState":null}}}
+/v1/ks/c {"updateMany":{"filter":{"$nor":[]},"update":{"a":1},"options":{"pageState":"AA=="}}}
+/v1/ks/c {"updateMany":{"update":{"a":1},"options":{"pageState":"AA=="}}}
+/v1/ks/c {"updateMany":{"update":{},"options":{"pageState":1}}}
+/v1/ks/c {"updateMany":{"options":{"limit":1}}}
+/v1/ks/c {"updateMany":[]}
+/v1/ks/c {"deleteMany":{"filter":[]}}
+/v1/ks/c {"deleteMany":{"filter":{"_id":{"$in":[4,2,9]}}}}
+/v1/ks/c {"find":{"projection":{"_id":1}}}
+
+=> 0
+{"status":{"insertedIds":[1]}}
+{"status":{"insertedIds":[2]}}
+{"status":{"insertedIds":[3]}}
+{"status":{"insertedIds":[4]}}
+{"status":{"matchedCount":2,"modifiedCount":1},"errors":[{"message":"Update target is of the wrong kind at n","errorCode":"UNSUPPORTED_UPDATE_OPERATION_TARGET"}]}
+{"errors":[{"message":"Update target is of the wrong kind at n","errorCode":"UNSUPPORTED_UPDATE_OPERATION_TARGET"}]}
+{"errors":[{"message":"Number is out of range at n","errorCode":"NUMBER_OUT_OF_RANGE"}]}
+{"data":{"documents":[{"_id":1,"n":5},{"_id":2,"n":4},{"_id":3,"n":[1]},{"_id":4,"n":2}],"nextPageState":null}}
+{"status":{"matchedCount":3,"modifiedCount":3}}
+{"status":{"matchedCount":4,"modifiedCount":1}}
+{"data":{"documents":[{"_id":1,"at":{"$date":1700000000001}},{"_id":2,"at":{"$date":1700000000001}},{"_id":3,"n":[1],"at":{"$date":1700000000001}},{"_id":4,"at":{"$date":1700000000001}}],"nextPageState":null}}
+{"status":{"matchedCount":4,"modifiedCount":0}}
+{"errors":[{"message":"Filter operator $nor is not supported","errorCode":"UNSUPPORTED_FILTER_OPERATION"}]}
+{"errors":[{"message":"Update operator a is not supported","errorCode":"UNSUPPORTED_UPDATE_OPERATION"}]}
+{"errors":[{"message":"Command field invalid: options.pageState","errorCode":"COMMAND_FIELD_INVALID"}]}
+{"errors":[{"message":"Command field invalid: options.limit","errorCode":"COMMAND_FIELD_INVALID"}]}
+{"errors":[{"message":"Command field invalid: updateMany","errorCode":"COMMAND_FIELD_INVALID"}]}
+{"errors":[{"message":"Command field invalid: filter","errorCode":"COMMAND_FIELD_INVALID"}]}
+{"status":{"deletedCount":2}}
+{"data":{"documents":[{"_id":1},{"_id":3}],"nextPageState":null}}
+---
+run --collection=c | keeper=7
+/v1/ks/c {"insertOne":{"document":{"_id":"a"}}}
+/v1/ks/c {"insertOne":{"document":{"_id":"b"}}}
+/v1/ks/c {"updateMany":{"update":{"$set":{"n":1}}}}
+/v1/ks/c {"updateMany":{"update":{"$set":{"n":1}}}}
+
+=> 0
+{"status":{"insertedIds":["a"]}}
+{"status":{"insertedIds":["b"]}}
+{"status":{"matchedCount":1,"modifiedCount":1},"errors":[{"message":"Store fault: 0 then 1","errorCode":"STORE_FAULT"}]}
+{"status":{"matchedCount":2,"modifiedCount":1}}
+---
+run --collection=c | keeper=5
+/v1/ks/c {"insertOne":{"document":{"_id":"a"}}}
+/v1/ks/c {"insertOne":{"document":{"_id":"b"}}}
+/v1/ks/c {"deleteMany":{}}
+/v1/ks/c {"deleteMany":{}}
+
+=> 0
+{"status":{"insertedIds":["a"]}}
+{"status":{"insertedIds":["b"]}}
+{"errors":[{"message":"Store fault: 0 then 1","errorCode":"STORE_FAULT"}]}
+{"status":{"deletedCount":2}}
+---
+run --collection=c | last=9223372036854775803
+/v1/ks/c {"insertOne":{"document":{"_id":"a"}}}
+/v1/ks/c {"insertOne":{"document":{"_id":"b"}}}
+/v1/ks/c {"deleteMany":{}}
+/v1/ks/c {"updateMany":{"update":{"$unset":{"n":1}}}}
+/v1/ks/c {"updateMany":{"update":{"$set":{"n":1}}}}
+
+=> 0
+{"status":{"insertedIds":["a"]}}
+{"status":{"insertedIds":["b"]}}
+{"status":{"deletedCount":1},"errors":[{"message":"No version numbers are left","errorCode":"VERSIONS_SPENT"}]}
+{"status":{"matchedCount":1,"modifiedCount":0}}
+{"errors":[{"message":"No version numbers are left","errorCode":"VERSIONS_SPENT"}]}
 "#;
 
-// Behind the insertions of 130 documents: matches of several pages of the store, and 20 of them at the end of a page.
-pub(super) const CHANGES: &str = r#"/v1/ks/c {"updateMany":{"filter":{"k":{"$gte":60}},"update":{"$set":{"t":1}}}}
+// Behind the insertions of 130 documents: matches of several pages of the store, 20 of them at the end of a page, and a
+// refusal on the second page.
+pub(super) const CHANGES: &str =
+    r#"/v1/ks/c {"updateMany":{"filter":{"k":{"$gte":60}},"update":{"$set":{"t":1}}}}
 /v1/ks/c {"updateMany":{"filter":{"k":{"$gte":60}},"update":{"$set":{"t":1}},"options":{"pageState":"AQAAAAAAAAAUAoAAAAAAAAAESFhhcKfcAAA="}}}
 /v1/ks/c {"updateMany":{"filter":{"k":{"$gte":44,"$lt":64}},"update":{"$set":{"t":2}}}}
 /v1/ks/c {"updateMany":{"filter":{"$or":[{"k":{"$gte":44,"$lt":64}},{"k":129}]},"update":{"$set":{"t":2}}}}
+/v1/ks/c {"updateOne":{"filter":{"_id":70},"update":{"$set":{"t":"x"}}}}
+/v1/ks/c {"updateMany":{"filter":{"k":{"$gte":60}},"update":{"$inc":{"t":1}}}}
 /v1/ks/c {"deleteMany":{"filter":{"$or":[{"k":{"$gte":44,"$lt":64}},{"k":129}]}}}
 /v1/ks/c {"deleteMany":{"filter":{"k":{"$lt":10}}}}
 /v1/ks/c {"deleteMany":{"filter":{"k":{"$gte":120}}}}
 /v1/ks/c {"countDocuments":{}}
 "#;
 
-pub(super) const CHANGED: &str = r#"{"status":{"matchedCount":20,"modifiedCount":20,"moreData":true,"nextPageState":"AQAAAAAAAAAUAoAAAAAAAAAESFhhcKfcAAA="}}
+pub(super) const CHANGED: &str =
+    r#"{"status":{"matchedCount":20,"modifiedCount":20,"moreData":true,"nextPageState":"AQAAAAAAAAAUAoAAAAAAAAAESFhhcKfcAAA="}}
 {"status":{"matchedCount":20,"modifiedCount":20,"moreData":true,"nextPageState":"AQAAAAAAAAAoAoAAAAAAAAAFXeanebusAAA="}}
 {"status":{"matchedCount":20,"modifiedCount":20}}
 {"status":{"matchedCount":20,"modifiedCount":0,"moreData":true,"nextPageState":"AQAAAAAAAAAUAoAAAAAAAAADakz2NjGcAAA="}}
+{"status":{"matchedCount":1,"modifiedCount":1}}
+{"status":{"matchedCount":10,"modifiedCount":10},"errors":[{"message":"Update target is of the wrong kind at t","errorCode":"UNSUPPORTED_UPDATE_OPERATION_TARGET"}]}
 {"status":{"deletedCount":20,"moreData":true}}
 {"status":{"deletedCount":10}}
 {"status":{"deletedCount":10}}

@@ -1,4 +1,4 @@
-use Rattle.std.proofs.Common.{rules, ◌≡◌, ◌∙◌, Some, refl, sym, inl, inr}
+use Rattle.std.proofs.Common.{rules, ◌∙◌, Some, refl, sym, inl, inr}
 use Rattle.reply_env.specs.Messages as errors
 use Rattle.cmd_tasks.specs.Looking.{Refuses}
 use Rattle.cmd_tasks.specs.declared.work.State.TheVariants.{Deleting}

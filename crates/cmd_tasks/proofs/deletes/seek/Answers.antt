@@ -1,5 +1,4 @@
 use Rattle.std.proofs.Common.{refl, sym, subst, arith}
-use Rattle.shred_cols.specs.Row.{Version}
 use Rattle.cmd_tasks.specs.Looking.{AreShort}
 use Rattle.cmd_tasks.specs.Served.{sights}
 use Rattle.cmd_tasks.specs.declared.work.Searched.TheVariants as sr

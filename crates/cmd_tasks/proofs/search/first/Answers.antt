@@ -1,5 +1,5 @@
 use Rattle.cmd_tasks.proofs.Keeping.{keeps_ordered}
-use Rattle.cmd_tasks.proofs.Shorts.{join_short, take_short, sorted_short}
+use Rattle.cmd_tasks.proofs.Shorts.{join_short, sorted_short}
 use Rattle.cmd_tasks.proofs.search.first.Goals as goal
 
 pub returns-clause-first : goal.returns-clause-first
