@@ -118,9 +118,8 @@ fn asked(alloc: Global, command: Command) -> Result<String, Fail> {
                 page.as_str()
             )?)
         }
-        Command::UpdateOne { sort, .. } | Command::DeleteOne { sort, .. } => {
-            order_of(alloc, &sort)
-        }
+        Command::UpdateOne { sort, .. } => order_of(alloc, &sort),
+        Command::DeleteOne { sort, .. } => order_of(alloc, &sort),
         Command::UpdateMany { page, .. } => page_of(alloc, &page),
         _ => Ok(String::new(alloc)),
     }
