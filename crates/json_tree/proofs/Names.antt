@@ -68,19 +68,19 @@ distinct_revalue (p ∷ ps) zero t = refl
 distinct_revalue (p ∷ ps) (suc i) t = ap₂ (λ a b. not a && b) (some_revalue p.0 ps i t) (distinct_revalue ps i t)
 
 -- a name that isn't there comes last
-some_last : (k name : List ℕ) (t : Tree) (ps : List (List ℕ × Tree)) → bytes_eq name k ≡ false → is_some (member_at k (ps ++ (name, t) ∷ [])) ≡ is_some (member_at k ps)
+pub some_last : (k name : List ℕ) (t : Tree) (ps : List (List ℕ × Tree)) → bytes_eq name k ≡ false → is_some (member_at k (ps ++ (name, t) ∷ [])) ≡ is_some (member_at k ps)
 some_last k name t [] e = rw e refl
 some_last k name t (p ∷ ps) e =
     elim (bytes_eq p.0 k) as (λ b. is_some (cond b (Some p.1) (member_at k (ps ++ (name, t) ∷ []))) ≡ is_some (cond b (Some p.1) (member_at k ps))) [ true ↦ refl | false ↦ some_last k name t ps e ]
 
-turned : (a b : List ℕ) → bytes_eq a b ≡ false → bytes_eq b a ≡ false
+pub turned : (a b : List ℕ) → bytes_eq a b ≡ false → bytes_eq b a ≡ false
 turned a b e = go (bytes_eq b a) refl
   where
     go : (r : Bool) → bytes_eq b a ≡ r → bytes_eq b a ≡ false
     go true q = let other = (bytes_eq-Decides a b).1 (sym ((bytes_eq-Decides b a).0 q)) in Prim.cc (other, e)
     go false q = q
 
-both_true : (a b : Bool) → (a && b) ≡ true → (a ≡ true) × (b ≡ true)
+pub both_true : (a b : Bool) → (a && b) ≡ true → (a ≡ true) × (b ≡ true)
 both_true true true e = (refl, refl)
 both_true true false e = Prim.cc e
 both_true false b e = Prim.cc e
@@ -99,7 +99,7 @@ distinct_last name t (p ∷ ps) h d =
     let parts = both_true (not (is_some (member_at p.0 ps))) (all_distinct ps) d in
     joined_true _ _ (ap not (some_last p.0 name t ps (turned p.0 name other.0)) ∙ parts.0) (distinct_last name t ps other.1 parts.1)
 
-behind : (b : Bool) (x : Tree) (o : Option Tree) → is_some (cond b (Some x) o) ≡ false → (b ≡ false) × (is_some o ≡ false)
+pub behind : (b : Bool) (x : Tree) (o : Option Tree) → is_some (cond b (Some x) o) ≡ false → (b ≡ false) × (is_some o ≡ false)
 behind true x o e = absurd (Prim.cc e)
 behind false x o e = (refl, e)
 
@@ -111,7 +111,7 @@ some_remove k (p ∷ ps) (suc i) e =
     let parts = behind (bytes_eq p.0 k) p.1 (member_at k ps) e in
     ap (λ b. is_some (cond b (Some p.1) (member_at k (remove ps i)))) parts.0 ∙ some_remove k ps i parts.1
 
-absent : (b : Bool) → not b ≡ true → b ≡ false
+pub absent : (b : Bool) → not b ≡ true → b ≡ false
 absent true e = Prim.cc e
 absent false e = refl
 

@@ -67,3 +67,13 @@ pub members_revalue : (ps : List (List ℕ × Tree)) (i : ℕ) (t : Tree) → Al
 members_revalue [] i t a h = tt
 members_revalue (p ∷ ps) zero t a h = (a.0, h, a.2)
 members_revalue (p ∷ ps) (suc i) t a h = (a.0, a.1, members_revalue ps i t a.2 h)
+
+pub members_drop : (ps : List (List ℕ × Tree)) (i : ℕ) → AllNamed ps → AllNamed (drop i ps)
+members_drop ps zero a = a
+members_drop [] (suc i) a = tt
+members_drop (p ∷ ps) (suc i) a = members_drop ps i a.2
+
+pub members_take : (ps : List (List ℕ × Tree)) (i : ℕ) → AllNamed ps → AllNamed (take i ps)
+members_take ps zero a = tt
+members_take [] (suc i) a = tt
+members_take (p ∷ ps) (suc i) a = (a.0, a.1, members_take ps i a.2)

@@ -18,3 +18,4 @@ pub mod Same
 pub mod Cut
 pub mod Rounded
 pub mod DigitLists
+pub mod Marks

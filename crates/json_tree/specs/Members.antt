@@ -31,3 +31,8 @@ abbrev pub revalue : List (List ℕ × Tree) → ℕ → Tree → List (List ℕ
 revalue [] i t = []
 revalue (p ∷ ps) zero t = (p.0, t) ∷ ps
 revalue (p ∷ ps) (suc i) t = p ∷ revalue ps i t
+
+-- these members, and then those of the pairs, one after the other
+abbrev pub with_pairs : List (List ℕ × Tree) → List (List ℕ × Tree) → List (List ℕ × Tree)
+with_pairs ms [] = ms
+with_pairs ms (p ∷ ps) = with_pairs (put_member p.0 p.1 ms) ps

@@ -10,6 +10,8 @@ mod id;
 mod key;
 mod laws;
 mod num;
+mod open_items;
+mod open_members;
 #[cfg(test)]
 mod tests;
 mod text;
@@ -24,5 +26,7 @@ pub use laws::{
     ids_are_ordered, key_bytes_are_ordered, products_are_exact, same_decides, values_are_writable,
 };
 pub use num::Num;
+pub use open_items::OpenItems;
+pub use open_members::OpenMembers;
 pub use text::Text;
 pub use value::{Items, Members, Value};

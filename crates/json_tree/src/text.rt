@@ -1,5 +1,5 @@
 // Texts: short ones in place, long ones shared by their copies.
-ghost use Rattle.std.specs.Prelude.{◌≡◌, ◌≤◌, length, IfOk, IfErr, OnOk, IsTrue, ◌↔◌, string_bytes};
+ghost use Rattle.std.specs.Prelude.{◌≡◌, ◌≤◌, length, take, IfOk, IfErr, OnOk, IsTrue, ◌↔◌, string_bytes};
 ghost use Rattle.json_tree.specs.declared.fault.TreeFault.TheVariants.{NoMemory};
 
 use crate::fault::TreeFault;
@@ -40,6 +40,19 @@ impl Short {
         Short {
             len: from.len() as u8,
             bytes,
+        }
+    }
+
+    /// A text that these bytes begin with.
+    #[inline(always)]
+    fn of_front(text: &str, bytes: &[u8; 14]) -> Short
+        requires few { length text.now ≤ 14 }
+        requires front { take (length text.now) bytes.now ≡ text.now }
+        ensures { result ≡ text.now }
+    {
+        Short {
+            len: text.len() as u8,
+            bytes: *bytes,
         }
     }
 
@@ -94,6 +107,21 @@ impl Text {
             Form::Long(ArcStr::from_str(alloc, text)?)
         };
         Ok(Text { form })
+    }
+
+    /// A copy of a text that these bytes begin with. Those behind it make the copy fast.
+    #[inline(always)]
+    pub fn of_front(alloc: Global, text: &str, bytes: &[u8]) -> Result<Text, TreeFault>
+        requires { take (length text.now) bytes.now ≡ text.now }
+        ensures ok { IfOk result (λ t. t ≡ text.now) }
+        ensures err { IfErr result (λ e. e ≡ NoMemory) }
+    {
+        match bytes.first_chunk::<14>() {
+            Some(first) if text.len() <= FEW => Ok(Text {
+                form: Form::Short(Short::of_front(text, first)),
+            }),
+            _ => Text::of_str(alloc, text),
+        }
     }
 
     /// The text of a string, which it takes over where it is long.

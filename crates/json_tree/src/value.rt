@@ -109,6 +109,14 @@ impl Items {
         }
     }
 
+    /// The list of values.
+    pub(crate) fn of_values(items: Vec<Value>) -> Items
+        requires { AreValues (elements_of (map tree items.items)) }
+        ensures { result ≡ map tree items.items }
+    {
+        Items { items }
+    }
+
     /// How many elements it has.
     pub fn len(&self) -> usize
         ensures { result ≡ length self.now }
@@ -198,6 +206,15 @@ impl Members {
         Members {
             pairs: Vec::new(alloc),
         }
+    }
+
+    /// The members that pairs of distinct names are.
+    pub(crate) fn of_pairs(pairs: Vec<(Text, Value)>) -> Members
+        requires distinct { IsTrue (all_distinct (map pair_of pairs.items)) }
+        requires values { MembersAreValues (members_of (map pair_of pairs.items)) }
+        ensures { result ≡ map pair_of pairs.items }
+    {
+        Members { pairs }
     }
 
     /// How many members it has. Their names are distinct.
