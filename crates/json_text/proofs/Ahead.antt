@@ -1,16 +1,18 @@
 -- Runs over several tokens, and over whole values.
-use Rattle.std.proofs.Common.{◌≡◌, ℕ, suc, ◌+◌, ◌-◌, ◌≤◌, ◌<◌, List, [], ◌∷◌, ◌++◌, length, Bool, true, false, cond, Option, Some, None, refl, sym, ap, ◌∙◌, arith, subst}
+use Rattle.std.proofs.Common.{◌≡◌, ℕ, ℤ, suc, ◌+◌, ◌-◌, ◌≤◌, ◌<◌, List, [], ◌∷◌, ◌++◌, length, take, drop, Bool, true, false, cond, Option, Some, None, refl, sym, ap, ◌∙◌, arith, subst}
 use Rattle.std.specs.Prelude.{IfSome}
 use Rattle.std.specs.Str.{bytes_eq}
 use Rattle.std.proofs.lemmas.Bool.{lt-ltb}
+use Rattle.std.proofs.lemmas.List.{append-nil, append_assoc, length-append}
+use Rattle.std.proofs.Math.Seq.{take-append_seam, drop-append_seam}
 use Rattle.json_tree.specs.Tree.{Tree, list}
 use Rattle.json_tree.specs.Tree as tree
-use Rattle.json_tree.specs.Members.{put_member}
+use Rattle.json_tree.specs.Members.{put_member, with_pairs}
 use Rattle.json_text.specs.Token.{Token, string, number, boolean, null, begin_object, end_object, begin_array, end_array, name_separator, value_separator, end, malformed}
 use Rattle.json_text.specs.Grammar.{object_value}
 use Rattle.json_text.specs.Lex.{token_at, tokens_from, tokens}
 use Rattle.json_text.specs.Machine.{Place, Slot, whole, element_of, member_of, want, first_element, after_element, first_name, name_of, colon_of, after_member, complete, State, more, fault, step, built, run, trees, start, deliver, opened}
-use Rattle.json_text.specs.Ahead.{unblanked, scalar_value, IsFirst, IsScalar, IsScalarToken, next_element_place, next_member_place, delivered, GoesOn, BeginsWithValue, Closes}
+use Rattle.json_text.specs.Ahead.{unblanked, scalar_value, IsFirst, IsScalar, IsScalarToken, next_element_place, next_member_place, delivered, GoesOn, BeginsWithValue, Closes, Puts, PutsMember, HasRead, pairs_place, next_pair_place}
 use Rattle.json_text.specs.FaultKinds.{too_deep}
 use Rattle.json_text.proofs.Turns.{took_more, took_done}
 
@@ -151,18 +153,88 @@ member_is l ms new n v bs named wanting rest a b is e =
     subst (λ m. GoesOn l (next_member_place ms) bs (after_member m) rest) (sym e)
     (goes_then (goes_then (by_name l ms n bs named a) (by_colon l ms n named wanting b)) (is.goes (member_of ms n)))
 
-pub put_some : (n : List ℕ) (v : Tree) (ms : List (List ℕ × Tree)) → 0 < length (put_member n v ms)
-put_some n v [] = omega arith
-put_some n v (m ∷ ms) = by (bytes_eq m.0 n)
-  where
-    by : (b : Bool) → 0 < length (cond b ((m.0, v) ∷ ms) (m ∷ put_member n v ms))
-    by true = omega arith
-    by false = omega arith
+-- ---- what lies above a bracket
 
-pub member_next : {l : ℕ} {p : Place Tree} {bs a b c : List ℕ} (ms new : List (List ℕ × Tree)) → GoesOn l p bs (next_member_place ms) a → GoesOn l (next_member_place ms) a (after_member new) b → 0 < length new → IsFirst b value_separator c
-    → GoesOn l p bs (next_member_place new) c
-member_next {l} {p} {bs} {a} {b} {c} ms [] g h some comma = absurd (omega arith)
-member_next {l} {p} {bs} {a} {b} {c} ms (m ∷ new) g h some comma = goes_then (goes_then g h) (by_comma l (m ∷ new) b c comma)
+pub string_first : (front : List ℕ) (s rest : List ℕ) → (string s, rest) ≡ token_at front → IsScalarToken (token_at front) (tree.text s) rest
+string_first front s rest e = (ap (λ r. scalar_value r.0) (sym e), ap (λ r. r.1) (sym e))
+
+pub number_first : (front : List ℕ) (n : ℤ) (rest : List ℕ) → (number (Some n), rest) ≡ token_at front → IsScalarToken (token_at front) (tree.number n) rest
+number_first front n rest e = (ap (λ r. scalar_value r.0) (sym e), ap (λ r. r.1) (sym e))
+
+pub nothing_read : {X : Type 0} (l : ℕ) (from : Place Tree) (bs : List ℕ) (old : List X) (to : List X → Place Tree) → to [] ≡ from → HasRead l from bs old old to bs
+nothing_read l from bs old to e = record { since = []; added = sym (append-nil old); goes = subst (λ p. GoesOn l from bs p bs) (sym e) (goes_nowhere l from bs) }
+
+-- what lay below the bracket
+pub below : {X : Type 0} {l : ℕ} {from : Place Tree} {bs : List ℕ} {old new : List X} {to : List X → Place Tree} {rest : List ℕ} (n : ℕ) → HasRead l from bs old new to rest → n ≡ length old → take n new ≡ old
+below {X} {l} {from} {bs} {old} {new} {to} {rest} n h e = ap (λ k. take k new) e ∙ ap (take (length old)) h.added ∙ take-append_seam old h.since
+
+-- what lies above
+above : {X : Type 0} {l : ℕ} {from : Place Tree} {bs : List ℕ} {old new : List X} {to : List X → Place Tree} {rest : List ℕ} (n : ℕ) (h : HasRead l from bs old new to rest) → n ≡ length old → drop n new ≡ h.since
+above {X} {l} {from} {bs} {old} {new} {to} {rest} n h e = ap (λ k. drop k new) e ∙ ap (drop (length old)) h.added ∙ drop-append_seam old h.since
+
+pub no_longer : {X : Type 0} {l : ℕ} {from : Place Tree} {bs : List ℕ} {old new : List X} {to : List X → Place Tree} {rest : List ℕ} → HasRead l from bs old new to rest → length old ≤ length new
+no_longer {X} {l} {from} {bs} {old} {new} {to} {rest} h = omega (arith, ap length h.added, length-append old h.since)
+
+more_added : {X : Type 0} (old since now new : List X) (x : X) → now ≡ old ++ since → new ≡ now ++ x ∷ [] → new ≡ old ++ (since ++ x ∷ [])
+more_added old since now new x e f = f ∙ ap (λ xs. xs ++ x ∷ []) e ∙ append_assoc old since (x ∷ [])
+
+pub elements_more : {l : ℕ} {bs a b : List ℕ} {old now new : List Tree} → HasRead l first_element bs old now next_element_place a → Puts (λ v. v) l a now new b → HasRead l first_element bs old new after_element b
+elements_more {l} {bs} {a} {b} {old} {now} {new} h p = record {
+  since = h.since ++ p.value ∷ [];
+  added = more_added old h.since now new p.value h.added p.added;
+  goes = element_more h.since (h.since ++ p.value ∷ []) h.goes p.begins refl;
+}
+
+pub elements_next : {l : ℕ} {bs a b c : List ℕ} {old now new : List Tree} → HasRead l first_element bs old now next_element_place a → Puts (λ v. v) l a now new b → IsFirst b value_separator c
+    → HasRead l first_element bs old new next_element_place c
+elements_next {l} {bs} {a} {b} {c} {old} {now} {new} h p comma = record {
+  since = h.since ++ p.value ∷ [];
+  added = more_added old h.since now new p.value h.added p.added;
+  goes = element_next h.since (h.since ++ p.value ∷ []) h.goes p.begins refl comma;
+}
+
+pub elements_closed : {l : ℕ} {bs b : List ℕ} {old new : List Tree} (n : ℕ) (vs : List Tree) → HasRead l first_element bs old new after_element b → n ≡ length old → vs ≡ drop n new → GoesOn l first_element bs (after_element vs) b
+elements_closed {l} {bs} {b} n vs h e is = subst (λ us. GoesOn l first_element bs (after_element us) b) (sym (is ∙ above n h e)) h.goes
+
+with_last : (ms ps : List (List ℕ × Tree)) (p : List ℕ × Tree) → with_pairs ms (ps ++ p ∷ []) ≡ put_member p.0 p.1 (with_pairs ms ps)
+with_last ms [] p = refl
+with_last ms (q ∷ ps) p = with_last (put_member q.0 q.1 ms) ps p
+
+pub puts_member : (l : ℕ) (n : List ℕ) (bs named wanting rest : List ℕ) (old new : List (List ℕ × Tree)) → IsFirst bs (string n) named → IsFirst named name_separator wanting → Puts (λ v. (n, v)) l wanting old new rest
+    → PutsMember l bs old new rest
+puts_member l n bs named wanting rest old new a b p =
+    record { name = n; value = p.value; added = p.added; goes = λ ms. member_is l ms (put_member n p.value ms) n p.value bs named wanting rest a b p.begins refl }
+
+pub members_more : {l : ℕ} {bs a b : List ℕ} {old now new : List (List ℕ × Tree)} → HasRead l first_name bs old now next_pair_place a → PutsMember l a now new b → HasRead l first_name bs old new pairs_place b
+members_more {l} {bs} {a} {b} {old} {now} {new} h p = record {
+  since = h.since ++ (p.name, p.value) ∷ [];
+  added = more_added old h.since now new (p.name, p.value) h.added p.added;
+  goes = subst (λ ms. GoesOn l first_name bs (after_member ms) b) (sym (with_last [] h.since (p.name, p.value))) (goes_then h.goes (p.goes (with_pairs [] h.since)));
+}
+
+some_member : (n : List ℕ) (v : Tree) (ms : List (List ℕ × Tree)) → name_of (put_member n v ms) ≡ next_member_place (put_member n v ms)
+some_member n v [] = refl
+some_member n v (m ∷ ms) = by (bytes_eq m.0 n)
+  where
+    by : (b : Bool) → name_of (cond b ((m.0, v) ∷ ms) (m ∷ put_member n v ms)) ≡ next_member_place (cond b ((m.0, v) ∷ ms) (m ∷ put_member n v ms))
+    by true = refl
+    by false = refl
+
+pub members_next : {l : ℕ} {bs a b c : List ℕ} {old now new : List (List ℕ × Tree)} → HasRead l first_name bs old now next_pair_place a → PutsMember l a now new b → IsFirst b value_separator c
+    → HasRead l first_name bs old new next_pair_place c
+members_next {l} {bs} {a} {b} {c} {old} {now} {new} h p comma =
+    let more = members_more h p in
+    let ms = with_pairs [] (h.since ++ (p.name, p.value) ∷ []) in
+    let is = with_last [] h.since (p.name, p.value) in
+    let place : name_of ms ≡ next_member_place ms = ap name_of is ∙ some_member p.name p.value (with_pairs [] h.since) ∙ ap next_member_place (sym is) in record {
+      since = h.since ++ (p.name, p.value) ∷ [];
+      added = more.added;
+      goes = subst (λ q. GoesOn l first_name bs q c) place (goes_then more.goes (by_comma l ms b c comma));
+    }
+
+pub members_closed : {l : ℕ} {bs b : List ℕ} {old new : List (List ℕ × Tree)} (n : ℕ) (ms : List (List ℕ × Tree)) → HasRead l first_name bs old new pairs_place b → n ≡ length old → ms ≡ with_pairs [] (drop n new)
+    → GoesOn l first_name bs (after_member ms) b
+members_closed {l} {bs} {b} n ms h e is = subst (λ m. GoesOn l first_name bs (after_member m) b) (sym (is ∙ ap (with_pairs []) (above n h e))) h.goes
 
 -- ---- brackets
 

@@ -1,7 +1,7 @@
 -- The steps of `string_at`.
 use Rattle.std.proofs.Common.{◌≡◌, ℕ, suc, ◌+◌, take, drop, Bool, true, false, subst, ◌<◌, ◌≤◌, List, [], ◌∷◌, ◌++◌, length, get_or, Option, Some, None, option_and_then, cond, ⊎_elim, refl, sym, ap, ◌∙◌, arith, encode_utf8, append_assoc}
 use Rattle.std.proofs.lemmas.Str.{IsCharBoundary-before_ascii, IsCharBoundary-end, inside_one, encode_ascii, length-encode, len_utf8_bounds}
-use Rattle.std.proofs.lemmas.List.{append-nil, length-append}
+use Rattle.std.proofs.lemmas.List.{append-nil, length-append, length-take-le}
 use Rattle.std.proofs.lemmas.Bool.{cases_lt, ne_eqb, le-ltb}
 use Rattle.std.proofs.lemmas.Bool.Decides.{nat_tests}
 use Rattle.std.proofs.lemmas.List.Sums.{prefix_len_stops, prefix_len-le-length}
@@ -81,6 +81,13 @@ pub plain_string : (bs rest : List ℕ) → drop (prefix_len is_plain bs) bs ≡
 plain_string bs rest e =
     let front = take (prefix_len is_plain bs) bs in
     plain_run bs ∙ ap (λ l. after front (string_at plain l)) e ∙ ap (after front) (closing rest) ∙ ap (λ s. Some (s, rest)) (append-nil front)
+
+-- such bytes, of their length
+pub run_front : (bs content : List ℕ) → content ≡ take (prefix_len is_plain bs) bs → take (length content) bs ≡ content
+run_front bs content e =
+    let n = prefix_len is_plain bs in
+    let all : length content ≡ n = ap length e ∙ length-take-le n bs (prefix_len-le-length is_plain bs) in
+    ap (λ k. take k bs) all ∙ sym e
 
 -- after such bytes and another part
 pub run_part : (bs content rest from : List ℕ) (r : Option (List ℕ × List ℕ)) → string_at plain bs ≡ after content (string_at plain rest) → from ≡ drop (prefix_len is_plain rest) rest

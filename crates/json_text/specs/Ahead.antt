@@ -3,7 +3,7 @@ use Rattle.std.specs.Prelude.{◌≡◌, ℕ, suc, ◌+◌, ◌-◌, ◌<◌, �
 use Rattle.std.specs.List.{prefix_len}
 use Rattle.json_tree.specs.Tree.{Tree}
 use Rattle.json_tree.specs.Tree as tree
-use Rattle.json_tree.specs.Members.{put_member}
+use Rattle.json_tree.specs.Members.{put_member, with_pairs}
 use Rattle.json_text.specs.Token.{Token, string, number, boolean, null}
 use Rattle.json_text.specs.Lex.{is_blank, Read, token_at, tokens_from}
 use Rattle.json_text.specs.Machine.{Place, Slot, whole, element_of, member_of, want, first_element, after_element, first_name, name_of, after_member, complete, run, trees}
@@ -62,3 +62,29 @@ pub record Closes (from : Place Tree) (levels : ℕ) (bytes : List ℕ) (v : Tre
   pub shorter : length rest < length bytes
   pub same : (slot : Slot Tree) (outer : List (Slot Tree)) (at : ℕ) → length outer + suc levels ≤ 32 → run trees (record { outer = slot ∷ outer; place = from }) (tokens_from 0 at bytes)
       ≡ run trees (record { outer = outer; place = delivered v slot }) (tokens_from 0 (at + (length bytes - length rest)) rest)
+
+-- the bytes begin with a value that was put on top of these, so wrapped
+pub record Puts {X : Type 0} (wrapped : Tree → X) (levels : ℕ) (bytes : List ℕ) (old new : List X) (rest : List ℕ) : Type 0 where
+  pub value : Tree
+  pub added : new ≡ old ++ wrapped value ∷ []
+  pub begins : BeginsWithValue levels bytes value rest
+
+-- the bytes begin with a member that was put on top of these
+pub record PutsMember (levels : ℕ) (bytes : List ℕ) (old new : List (List ℕ × Tree)) (rest : List ℕ) : Type 0 where
+  pub name : List ℕ
+  pub value : Tree
+  pub added : new ≡ old ++ (name, value) ∷ []
+  pub goes : (ms : List (List ℕ × Tree)) → GoesOn levels (next_member_place ms) bytes (after_member (put_member name value ms)) rest
+
+-- Since a bracket was opened these came on top of those, and a run from this place over these bytes goes on over the rest.
+pub record HasRead {X : Type 0} (levels : ℕ) (from : Place Tree) (bytes : List ℕ) (old new : List X) (to : List X → Place Tree) (rest : List ℕ) : Type 0 where
+  pub since : List X
+  pub added : new ≡ old ++ since
+  pub goes : GoesOn levels from bytes (to since) rest
+
+-- where an object stands after the members that these pairs write one after the other, and where it wants one more
+abbrev pub pairs_place : List (List ℕ × Tree) → Place Tree
+pairs_place ps = after_member (with_pairs [] ps)
+
+abbrev pub next_pair_place : List (List ℕ × Tree) → Place Tree
+next_pair_place ps = next_member_place (with_pairs [] ps)

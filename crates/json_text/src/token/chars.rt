@@ -1,5 +1,5 @@
 // A text by its characters: the front of one, and the blanks before it.
-ghost use Rattle.std.specs.Prelude.{◌≡◌, ◌+◌, ◌<◌, ◌++◌, [], length, drop, encode_utf8, MatchOption};
+ghost use Rattle.std.specs.Prelude.{◌≡◌, ◌+◌, ◌<◌, ◌++◌, [], ◌∷◌, length, drop, encode_utf8, IfSome, MatchOption};
 ghost use Rattle.std.specs.List.{prefix_len};
 ghost use Rattle.json_text.specs.Lex.{is_blank};
 ghost use Rattle.json_text.specs.Front.{IsFront};
@@ -39,13 +39,23 @@ fn decoded_front(text: &str) -> Front<'_>
     }
 }
 
+// The first character where it is ASCII, and what follows it.
 #[inline(always)]
+pub(crate) fn ascii_front(text: &str) -> Option<(u8, &str)>
+    ensures { IfSome result (λ p. (p.0 < 128) × (text.now ≡ p.0 ∷ p.1.now)) }
+{
+    match text.as_bytes() {
+        [b, ..] if *b < 0x80 => Some((*b, &text[1..])),
+        _ => None,
+    }
+}
+
 pub(crate) fn front_of(text: &str) -> Front<'_>
     ensures { IsFront text.now result }
 {
-    match text.as_bytes() {
-        [b, ..] if *b < 0x80 => Front::Ascii(*b, &text[1..]),
-        _ => decoded_front(text),
+    match ascii_front(text) {
+        Some((b, rest)) => Front::Ascii(b, rest),
+        None => decoded_front(text),
     }
 }
 

@@ -3,12 +3,12 @@ ghost use Rattle.std.specs.Prelude.{◌≡◌, ◌<◌, ◌≤◌, length, Some,
 ghost use Rattle.std.specs.List.{prefix_len};
 ghost use Rattle.json_text.specs.Lex.{token_at, numeral_at, string_token, is_letter, word_token, word_at};
 ghost use Rattle.json_text.specs.Text.{string_at, plain};
-ghost use Rattle.json_text.specs.Token.{number};
+ghost use Rattle.json_text.specs.Token.{number, string};
 ghost use Rattle.json_text.specs.View.{token_of};
 
-use crate::token::chars::{Front, front_of};
+use crate::token::chars::{Front, ascii_front, front_of};
 use crate::token::numeral::{numeral, numeral_len, short_units};
-use crate::token::string::string_of;
+use crate::token::string::{plain_string, string_of};
 use json_tree::{Num, Text, TreeFault};
 use std::alloc::Global;
 
@@ -57,6 +57,35 @@ pub(crate) fn short_numeral(text: &str) -> Option<(Num, &str)>
 {
     let (units, len) = short_units(text.as_bytes())?;
     Some((Num::of_units(units as i128), &text[len..]))
+}
+
+// The number at the front, where its numeral is short.
+#[inline(always)]
+#[tactic(auto, unfolding(crate::specs::Lex::token_at))]
+pub(crate) fn short_number(text: &str) -> Option<(Num, &str)>
+    ensures { IfSome result (λ p. (number (Some p.0), p.1.now) ≡ token_at text.now) }
+{
+    match ascii_front(text) {
+        Some((b'0'..=b'9', _)) => short_numeral(text),
+        _ => None,
+    }
+}
+
+// The string at the front, where no escape stands in it: its content, the text from this on, and what
+// follows the string.
+#[inline(always)]
+#[tactic(auto, unfolding(crate::specs::Lex::token_at))]
+pub(crate) fn plain_string_at(text: &str) -> Option<(&str, &str, &str)>
+    ensures content { IfSome result (λ p. (string p.0.now, p.2.now) ≡ token_at text.now) }
+    ensures front { IfSome result (λ p. take (length p.0.now) p.1.now ≡ p.0.now) }
+{
+    match ascii_front(text) {
+        Some((b'"', from)) => match plain_string(from) {
+            Some((content, rest)) => Some((content, from, rest)),
+            None => None,
+        },
+        _ => None,
+    }
 }
 
 fn is_letter(b: u8) -> bool

@@ -6,7 +6,7 @@ ghost use Rattle.std.specs.Char.{digit_value};
 ghost use Rattle.json_text.specs.Text.{short_escape, code_unit, is_high_half, is_low_half, string_at, plain, after_backslash, after_u, after_high};
 ghost use Rattle.json_text.specs.Unescaped.{IsUnescaped, unit_at, escaped_unit_at, is_mark, is_plain};
 
-use crate::token::chars::{Front, front_of};
+use crate::token::chars::{Front, ascii_front, front_of};
 use json_tree::{Text, TreeFault};
 use std::alloc::Global;
 use std::simd::prelude::*;
@@ -286,15 +286,29 @@ fn escaped_string(alloc: Global, text: &str) -> Result<Option<(Text, &str)>, Tre
     }
 }
 
-// The same; one without escapes is taken as it stands.
+// The same where no escape stands in it: its content and what follows it.
 #[inline(always)]
-#[tactic(auto, using(crate::proofs::StringSteps::plain_string))]
+#[tactic(auto, using(crate::proofs::StringSteps::plain_string, crate::proofs::StringSteps::run_front))]
+pub(crate) fn plain_string(text: &str) -> Option<(&str, &str)>
+    ensures content { IfSome result (λ p. string_at plain text.now ≡ Some (p.0.now, p.1.now)) }
+    ensures front { IfSome result (λ p. take (length p.0.now) text.now ≡ p.0.now) }
+{
+    let (content, from) = split_plain(text);
+    match ascii_front(from) {
+        Some((b'"', rest)) => Some((content, rest)),
+        _ => None,
+    }
+}
+
+// The string whose opening quote stands before the text, and what follows it.
 pub(crate) fn string_of(alloc: Global, text: &str) -> Result<Option<(Text, &str)>, TreeFault>
     ensures { IfOk result (λ r. MatchOption r (string_at plain text.now ≡ None) (λ p. string_at plain text.now ≡ Some (p.0, p.1.now))) }
 {
-    let (plain, from) = split_plain(text);
-    match front_of(from) {
-        Front::Ascii(b'"', rest) => Ok(Some((Text::of_str(alloc, plain)?, rest))),
-        _ => escaped_string(alloc, text),
+    match plain_string(text) {
+        Some((content, rest)) => {
+            let content = Text::of_front(alloc, content, text.as_bytes())?;
+            Ok(Some((content, rest)))
+        }
+        None => escaped_string(alloc, text),
     }
 }

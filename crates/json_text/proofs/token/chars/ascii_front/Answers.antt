@@ -1,6 +1,6 @@
 use Rattle.std.proofs.Common.{◌<◌, length, get_or, ap, arith, subst}
 use Rattle.std.proofs.lemmas.Str.{IsCharBoundary-after_ascii}
-use Rattle.json_text.proofs.token.chars.front_of.Goals as goal
+use Rattle.json_text.proofs.token.chars.ascii_front.Goals as goal
 
 pub range_from-requires : goal.range_from-requires
 range_from-requires c =
