@@ -166,7 +166,7 @@ impl Chunk {
         }
     }
 
-    /// Puts a row over the one of its id, and answers that one.
+    /// Puts a row over the one of its id. Its answer is for the caller to drop: no clause says which row it is.
     pub(crate) fn replace<L: Ledger>(&mut self, row: Row, steps: &mut Steps<L>) -> Row
         requires rise { ascends self.old ≡ true }
         requires there { version_of (id_of row.doc) self.old ≢ None }

@@ -24,7 +24,7 @@ use std::sync::ledger::{Blank, Ledger};
 /// takes no memory.
 #[derive(Drop)]
 pub struct Table {
-    chunks: Vec<Chunk>,
+    pub(crate) chunks: Vec<Chunk>,
     spare: Option<Chunk>,
     reserved: bool,
     alloc: Global,

@@ -121,3 +121,15 @@ fn rows_stand_in_order(rt: HostRuntime) -> Result<(), Fail> {
     }
     Ok(())
 }
+
+// Ids that come in order fill their chunks of 64 rows: 301 rows stand in 5.
+#[test]
+fn ascending_ids_fill_chunks(rt: HostRuntime) -> Result<(), Fail> {
+    let alloc = rt.alloc();
+    let mut table = Table::new(alloc);
+    for number in 0..301u64 {
+        put_number(alloc, &mut table, number, number)?;
+    }
+    assert_eq!(rt; table.chunks.len(), 5usize);
+    Ok(())
+}
