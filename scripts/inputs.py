@@ -28,8 +28,9 @@ NO_KEYS = [b"", b"\x01", b"\x01\xff", b"\x00", b"\x06", b"\x01a\x80", b"\x02" + 
 class Inputs:
     def __init__(self, rng):
         self.rng = rng
-        # Pages that another one follows, each with its filter, its limit and its state.
-        self.pages = []
+        # Pages that another one follows, each with its state and what was asked for: of find its filter and its limit, of
+        # updateMany its filter and its update.
+        self.pages = {"find": [], "updateMany": []}
         self.asked = None
 
     def blank(self):
@@ -233,8 +234,9 @@ class Inputs:
     def state(self):
         """A page state that no page of this listing gave, or none at all."""
         pick = self.rng.random()
-        if pick < 0.3 and self.pages:
-            return self.rng.choice(self.pages)[2]
+        told = self.pages["find"] + self.pages["updateMany"]
+        if pick < 0.3 and told:
+            return self.rng.choice(told)[0]
         if pick < 0.7:
             return views.print_state(self.rng.choice(GIVEN), self.some_id())
         if pick < 0.85:
@@ -267,15 +269,17 @@ class Inputs:
         self.rng.shuffle(parts)
         return "{" + ",".join(parts) + "}"
 
+    def told(self, command, other):
+        """The state of a page that another one told, if there is one, and what that one was asked for; or `other`."""
+        pick, pages = self.rng.random(), self.pages[command]
+        if pages and pick < 0.5:
+            return self.rng.choice(pages[-3:] if pick < 0.45 else pages)
+        return self.state() if pick > 0.8 else None, *other
+
     def page(self):
         """A page of a listing: its first one, one that another one tells of, or one of a state from elsewhere."""
-        pick = self.rng.random()
-        if self.pages and pick < 0.5:
-            near = self.pages[-3:] if pick < 0.45 else self.pages
-            wanted, limit, state = self.rng.choice(near)
-        else:
-            wanted, limit, state = self.loose(), self.limit(), self.state() if pick > 0.8 else None
-        self.asked = wanted, limit
+        state, wanted, limit = self.told("find", (self.loose(), self.limit()))
+        self.asked = "find", wanted, limit
         parts = ['"filter":' + wanted] if wanted else []
         parts += self.often(0.3, '"projection":' + self.projection()) + self.often(0.05, '"sort":{}')
         options = ['"limit":' + limit] if limit else []
@@ -303,6 +307,37 @@ class Inputs:
         parts = ['"update":' + self.update()] + self.often(0.7, '"filter":' + wanted) + self.often(0.35, '"sort":' + self.sort())
         return self.command(parts, [])
 
+    def mild(self):
+        """An update that most documents take, and that many of them have taken already."""
+        return self.rng.choice([
+            '{"$set":{"k":%d}}' % self.rng.randint(0, 9), '{"$inc":{"n":%s}}' % self.rng.choice(["1", "-1", "0", "0.5"]),
+            '{"$max":{"n":%d}}' % self.rng.randint(0, 40), '{"$unset":{"%s":1}}' % self.rng.choice("ab"),
+            '{"$addToSet":{"tags":%d}}' % self.rng.randint(0, 3), '{"$push":{"tags":%d}}' % self.rng.randint(0, 3),
+            '{"$pop":{"tags":1}}', '{"$set":{"t.u":"%s"}}' % self.rng.choice("xy"), '{"$rename":{"a":"m"}}',
+            '{"$mul":{"n":2},"$set":{"b":true}}', '{"$setOnInsert":{"k":1}}', '{}'])
+
+    def crowded(self):
+        """A filter that many documents match, close together or far apart; or a few; or none at all."""
+        number = self.rng.randint(0, 150)
+        return self.rng.choice([
+            self.loose(), '{"k":%d}' % self.rng.randint(0, 9), '{"k":{"$lt":%d}}' % self.rng.randint(0, 9),
+            '{"n":{"$gte":%d}}' % self.rng.randint(0, 40), '{"_id":{"$gt":%d}}' % number, '{"_id":{"$lt":"d%d"}}' % number,
+            '{"tags":%d}' % self.rng.randint(0, 3), '{"tags":{"$size":%d}}' % self.rng.randint(0, 4), '{"b":true}',
+            '{"$or":[{"k":%d},{"_id":%d}]}' % (self.rng.randint(0, 9), number), '{"t.u":{"$ne":"x"}}'])
+
+    def update_many(self):
+        update = self.mild() if self.rng.random() < 0.7 else self.update()
+        state, wanted, update = self.told("updateMany", (self.crowded(), update))
+        self.asked = "updateMany", wanted, update
+        options = ['"pageState":' + quoted(state)] if state is not None else self.often(0.1, '"pageState":null')
+        wrong = self.often(0.02, self.rng.choice(['"limit":1', '"skip":0', '"upsert":true', '"pageState":1']))
+        parts = ['"update":' + update] + (['"filter":' + wanted] if wanted else [])
+        return self.command(parts + self.often(0.02, '"projection":{}'), options + wrong)
+
+    def delete_many(self):
+        wanted = self.crowded() if self.rng.random() < 0.9 else self.filter()
+        return self.command(['"filter":' + wanted] if wanted else [], [])
+
     def wanted(self, command):
         pick = self.rng.random()
         if pick < 0.03:
@@ -310,6 +345,9 @@ class Inputs:
         extra = self.rng.choice(["", "", "", "", "", ',"options":{}', ',"x":1', ',"sort":{}']) if pick < 0.2 else ""
         if command == "insertOne":
             return '{"document":' + (self.limits() if pick > 0.995 else self.document()) + extra + "}"
+        if command in ("updateMany", "deleteMany"):
+            text = self.update_many() if command == "updateMany" else self.delete_many()
+            return text[:-1] + (extra if text != "{}" else extra[1:]) + "}"
         if self.rng.random() < 0.1:
             return "{" + extra[1:] + "}"
         if command == "find":
@@ -317,8 +355,10 @@ class Inputs:
         if command == "updateOne":
             return self.update_one()[:-1] + extra + "}"
         parts = ['"filter":' + self.filter()]
+        if command in ("findOne", "deleteOne"):
+            parts += self.often(0.5, '"sort":' + self.sort())
         if command == "findOne":
-            parts += self.often(0.5, '"sort":' + self.sort()) + self.often(0.5, '"projection":' + self.projection())
+            parts += self.often(0.5, '"projection":' + self.projection())
         return "{" + ",".join(parts) + extra + "}"
 
     def body(self, command):
@@ -349,17 +389,41 @@ class Inputs:
         reply = service.reply(*request) if request else ""
         before, found, state = reply.rpartition('"nextPageState":"')
         if self.asked and found:
-            self.pages.append((*self.asked, state.split('"')[0]))
+            command, *rest = self.asked
+            self.pages[command].append((state.split('"')[0], *rest))
+
+    def member_of_crowd(self):
+        number = self.rng.randint(0, 150)
+        wanted = self.rng.choice(["%d", "%d", '"d%d"', '"d%d"', "-%d.5", '{"$date":%d}']) % number
+        n = self.rng.randint(0, 40) if self.rng.random() < 0.98 else self.rng.choice(['"x"', "null", "[1]", "99999999999999999999"])
+        tags = [str(self.rng.randint(0, 3)) for _ in range(self.rng.choice([0, 1, 2, 3]))]
+        tags = "[%s]" % ",".join(tags) if self.rng.random() < 0.99 else self.rng.choice(["[%s]" % ",".join(["0"] * 999), '"t"'])
+        parts = ['"k":%d' % self.rng.randint(0, 9)] + self.often(0.9, '"n":%s' % n) + self.often(0.8, '"tags":%s' % tags)
+        parts += self.often(0.3, '"a":%s' % self.plain(1)) + self.often(0.3, '"b":true') + self.often(0.2, '"t":{}')
+        return '{"insertOne":{"document":{"_id":%s,%s}}}' % (wanted, ",".join(parts))
+
+    def crowd(self, service, count):
+        """Many documents that are alike, and changes of many of them, between which other requests come."""
+        place = self.rng.choices(["c", "d"], [9, 1])[0]
+        lines = []
+        for _ in range(count):
+            lines.append(("/v1/ks/%s %s" % (place, self.member_of_crowd())).encode())
+            self.keep_page(service, lines[-1])
+        return lines
 
     def whole(self):
-        """Lines of all commands, or many insertions and then mostly searches."""
+        """Lines of all commands; or many insertions and then mostly searches; or a crowd and then mostly changes of many."""
         service = model.Service(["c", "d"])
         count = self.rng.randint(1, 900)
-        lists = self.rng.random() < 0.5
-        lines = []
+        kind = self.rng.choice(["even", "searches", "changes", "changes"])
+        lines = self.crowd(service, self.rng.choice([70, 150, 400])) if kind == "changes" else []
         for i in range(count):
-            lines.append(self.line([1, 1, 2, 1, 1] if not lists else [8, 0, 1, 0, 1] if i < count // 3 else [1, 2, 9, 1, 2]))
+            weights = {"even": [4, 4, 8, 4, 4, 3, 1, 1], "many": [32, 0, 4, 0, 4, 1, 1, 0], "searches": [4, 8, 36, 4, 8, 2, 1, 0],
+                       "changes": [8, 1, 4, 2, 2, 24, 2, 2]}
+            lines.append(self.line(weights["many" if kind == "searches" and i < count // 3 else kind]))
             self.keep_page(service, lines[-1])
+            if kind == "changes" and self.rng.random() < 0.1:
+                lines += self.crowd(service, self.rng.choice([1, 1, 2, 30]))
         for _ in range(self.rng.randint(0, 4)):
             lines.insert(self.rng.randrange(len(lines) + 1), self.rng.choice([b"", b"\r"]))
         if self.rng.random() < 0.3:
@@ -381,6 +445,10 @@ class Inputs:
                 '{"find":{%s,"sort":{%s},"projection":{"t":1}}}' % (wanted, keys),
                 '{"findOne":{%s,"sort":{%s}}}' % (wanted, keys),
                 '{"updateOne":{%s,"sort":{%s},"update":{"$inc":{"n":1}}}}' % (wanted, keys),
+                '{"deleteOne":{"filter":{"_id":{"$lt":0}},"sort":{%s}}}' % keys,
+                '{"updateMany":{%s,"update":{"$inc":{"n":1}},"options":{"pageState":"%s"}}}' % (wanted, state),
+                '{"updateMany":{"filter":{"_id":{"$in":%s}},"update":{"$set":{"t":1}}}}' % self.rng.sample(range(10_000), 22),
+                '{"deleteMany":{"filter":{"_id":{"$in":%s}}}}' % self.rng.sample(range(10_000, 10_030), 25),
                 '{"find":{%s,"options":{"pageState":"%s"}}}' % (wanted, state),
                 '{"countDocuments":{%s}}' % wanted]))
         return lines

@@ -275,16 +275,24 @@ ROWS = {"insertOne": {"document": ("object", True)},
         "findOne": {"filter": OBJECT, "sort": OBJECT, "projection": OBJECT},
         "find": {"filter": OBJECT, "sort": OBJECT, "projection": OBJECT},
         "countDocuments": {"filter": OBJECT},
-        "updateOne": {"filter": OBJECT, "update": ("object", True), "sort": OBJECT}}
+        "updateOne": {"filter": OBJECT, "update": ("object", True), "sort": OBJECT},
+        "updateMany": {"filter": OBJECT, "update": ("object", True)},
+        "deleteOne": {"filter": OBJECT, "sort": OBJECT},
+        "deleteMany": {"filter": OBJECT}}
 
 
 def is_bound(value):
     return whole(value, 0, 2 ** 31 - 1) is not None
 
 
-OPTIONS = {"find": {"limit": is_bound, "skip": is_bound, "pageState": lambda value: value is None or isinstance(value, str)},
-           "updateOne": {}}
+def is_state(value):
+    return value is None or isinstance(value, str)
+
+
+OPTIONS = {"find": {"limit": is_bound, "skip": is_bound, "pageState": is_state},
+           "updateOne": {}, "updateMany": {"pageState": is_state}}
 PAGE = 20
+MOST_GIVEN = 2 ** 63 - 1
 MOST_SORTED = 10_000
 
 
@@ -370,7 +378,8 @@ class Service:
         try:
             return self.answer(path, body)
         except Fault as fault:
-            return '{"errors":[{"message":%s,"errorCode":"%s"}]}' % (quoted(fault.message), fault.code)
+            error = '{"message":%s,"errorCode":"%s"}' % (quoted(fault.message), fault.code)
+            return "{%s}" % ",".join([fault.status] * (fault.status != "") + ['"errors":[%s]' % error])
 
     def answer(self, path, body):
         value = read(body)
@@ -394,7 +403,8 @@ class Service:
         rows = self.rows[collection]
         if name == "insertOne":
             return self.insert(rows, wanted.get("document"))
-        serve = {"findOne": self.find_one, "find": self.find, "countDocuments": self.count, "updateOne": self.update}
+        serve = {"findOne": self.find_one, "find": self.find, "countDocuments": self.count, "updateOne": self.update,
+                 "updateMany": self.update_many, "deleteOne": self.delete, "deleteMany": self.delete_many}
         return serve[name](rows, search)
 
     def next_number(self):
@@ -424,7 +434,7 @@ class Service:
         page, state = found[:room], "null"
         given = search.given + len(page)
         if len(page) == PAGE and not search.keys and (search.limit == 0 or given < search.limit):
-            state = quoted(views.print_state(min(given, 2 ** 63 - 1), page[-1].get("_id")))
+            state = quoted(views.print_state(min(given, MOST_GIVEN), page[-1].get("_id")))
         return '{"data":{"documents":[%s],"nextPageState":%s}}' % (",".join(map(search.view, page)), state)
 
     def count(self, rows, search):
@@ -432,15 +442,63 @@ class Service:
         more = ',"moreData":true' if len(found) > 1000 else ""
         return '{"status":{"count":%d%s}}' % (min(len(found), 1000), more)
 
+    def change(self, rows, search, document):
+        """Updates a document, and tells whether it differs."""
+        new = apply_updates(search.clauses, document, self.moment)
+        if same(new, document):
+            return False
+        self.write(rows, new)
+        return True
+
+    def remove(self, rows, document):
+        self.last = self.next_number()
+        del rows[id_key(document.get("_id"))]
+        return True
+
     def update(self, rows, search):
+        found = search.found(rows)[:1]
+        changed = [self.change(rows, search, document) for document in found]
+        return "{%s}" % updated_status(len(found), sum(changed))
+
+    def delete(self, rows, search):
+        found = search.found(rows)[:1]
+        changed = [self.remove(rows, document) for document in found]
+        return "{%s}" % deleted_status(len(found), sum(changed))
+
+    def update_many(self, rows, search):
         found = search.found(rows)
-        changed = False
-        if found:
-            document = apply_updates(search.clauses, found[0], self.moment)
-            changed = not same(document, found[0])
-        if changed:
-            self.write(rows, document)
-        return '{"status":{"matchedCount":%d,"modifiedCount":%d}}' % (len(found[:1]), changed)
+        taken, changed = take_many(found, lambda document: self.change(rows, search, document), updated_status)
+        more = ""
+        if len(found) > taken:
+            given = min(search.given + taken, MOST_GIVEN)
+            more = ',"moreData":true,"nextPageState":' + quoted(views.print_state(given, found[taken - 1].get("_id")))
+        return "{%s}" % updated_status(taken, changed, more)
+
+    def delete_many(self, rows, search):
+        found = search.found(rows)
+        taken, changed = take_many(found, lambda document: self.remove(rows, document), deleted_status)
+        return "{%s}" % deleted_status(taken, changed, ',"moreData":true' if len(found) > taken else "")
+
+
+def updated_status(taken, changed, more=""):
+    return '"status":{"matchedCount":%d,"modifiedCount":%d%s}' % (taken, changed, more)
+
+
+def deleted_status(taken, changed, more=""):
+    return '"status":{"deletedCount":%d%s}' % (changed, more)
+
+
+def take_many(found, take, status):
+    """(how many of the first 20 were taken, how many of these changed). A fault tells of the writes before it."""
+    taken = changed = 0
+    for document in found[:PAGE]:
+        try:
+            changed += take(document)
+        except Fault as fault:
+            fault.status = status(taken, changed) if changed else ""
+            raise
+        taken += 1
+    return taken, changed
 
 
 # ---- lines ----

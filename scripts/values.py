@@ -59,12 +59,13 @@ ABSENT = Absent()
 
 
 class Fault(Exception):
-    """A refusal, with its code and message."""
+    """A refusal, with its code and message, and the status that tells of the writes before it, if there is one."""
 
     def __init__(self, code, message):
         super().__init__(message)
         self.code = code
         self.message = message
+        self.status = ""
 
 
 def kind(value):

@@ -12,8 +12,8 @@ use Rattle.reply_env.specs.Messages.{bad_collection_name, no_keyspace}
 use Rattle.reply_env.specs.declared.reply.ErrorItem.{ErrorItem}
 use Rattle.reply_env.specs.declared.request.Place.{Place}
 use Rattle.cmd_grammar.specs.First.{first_of}
-use Rattle.cmd_grammar.specs.Names.{command_named, command_text}
-use Rattle.cmd_grammar.specs.Commands.{CommandTree, insert_one, find_one, find, count_documents, update_one, Paging, command_tree, IsStorable, IsAskable, IsAskableFilter, IsAskablePaging}
+use Rattle.cmd_grammar.specs.Names.{command_named, command_text, built}
+use Rattle.cmd_grammar.specs.Commands.{CommandTree, insert_one, find_one, find, count_documents, update_one, update_many, delete_one, delete_many, Paging, command_tree, IsStorable, IsAskable, IsAskableFilter, IsAskablePage, IsAskablePaging}
 use Rattle.cmd_grammar.specs.Parts.{member_in, updates_of, sort_of, shows_of, document_of, limit_of, skip_of, page_text, IsPage}
 use Rattle.cmd_grammar.specs.Refused.{command_at, refused, no_command_refusal, keyspace_refusal, collection_refusal, command_refusal}
 use Rattle.cmd_grammar.specs.Asked.{command_of, Asks, IsPlaced}
@@ -28,7 +28,7 @@ use Rattle.cmd_grammar.specs.Judged.{AreParts, IsJudged, without_document, IsIns
 use Rattle.cmd_grammar.specs.declared.parts.Parts.{Parts}
 use Rattle.cmd_grammar.specs.Answers.{Passes, Refuses, Answers}
 use Rattle.cmd_grammar.specs.declared.name.Name.{Name}
-use Rattle.cmd_grammar.specs.declared.name.Name.TheVariants.{InsertOne, FindOne, Find, CountDocuments, UpdateOne}
+use Rattle.cmd_grammar.specs.declared.name.Name.TheVariants.{InsertOne, FindOne, Find, CountDocuments, UpdateOne, UpdateMany, DeleteOne, DeleteMany}
 use Rattle.cmd_grammar.specs.declared.command.Command.{Command}
 use Rattle.cmd_grammar.specs.declared.fault.CommandFault.{CommandFault}
 use Rattle.cmd_grammar.specs.declared.fault.CommandFault.TheVariants.{Refused, NoMemory}
@@ -50,7 +50,7 @@ at_name n u inner name (Some k) e h =
     let same : k ≡ name = ap (λ (q : Name × Tree). q.0) pair in
     let value : u ≡ inner = ap (λ (q : Name × Tree). q.1) pair in
     let is : command_named n ≡ Some name = sym e ∙ ap (λ (x : Name). Some x) same in
-    let its : command_text name ≡ n = named_text (InsertOne ∷ FindOne ∷ Find ∷ CountDocuments ∷ UpdateOne ∷ []) n name is in
+    let its : command_text name ≡ n = named_text built n name is in
     found_here (bytes_eq n (command_text name)) u ((bytes_eq-Decides n (command_text name)).1 (sym its)) ∙ ap (λ (x : Tree). Some x) value
 
 pub at_member : (o : Option (List ℕ)) (t inner : Tree) (name : Name) → command_at o t ≡ Some (name, inner) → member_in (command_text name) t ≡ Some inner
@@ -94,6 +94,9 @@ inserted place t p (find_one f sort shows) j h = absurd h
 inserted place t p (find f sort shows paging) j h = absurd h
 inserted place t p (count_documents f) j h = absurd h
 inserted place t p (update_one f updates sort) j h = absurd h
+inserted place t p (update_many f updates page) j h = absurd h
+inserted place t p (delete_one f sort) j h = absurd h
+inserted place t p (delete_many f) j h = absurd h
 
 -- ---- the command that takes no document
 
@@ -103,6 +106,9 @@ no_document FindOne p e = absurd (Prim.cc e)
 no_document Find p e = absurd (Prim.cc e)
 no_document CountDocuments p e = absurd (Prim.cc e)
 no_document UpdateOne p e = absurd (Prim.cc e)
+no_document UpdateMany p e = absurd (Prim.cc e)
+no_document DeleteOne p e = absurd (Prim.cc e)
+no_document DeleteMany p e = absurd (Prim.cc e)
 
 abbrev paging : ℕ → ℕ → Option PageState → Paging
 paging limit skip page = record { limit = limit; skip = skip; page = page }
@@ -123,11 +129,18 @@ made_of CountDocuments t p k a e = let same : count_documents (filter_tree p.fil
 made_of UpdateOne t p k a e =
     let same : update_one (filter_tree p.filter) p.updates p.listing.sort ≡ k = sym (Prim.cc e) in
     ap (λ f. update_one f (updates_of t) (sort_of t)) (sym a.filter) ∙ ap (λ u. update_one (filter_tree p.filter) u (sort_of t)) (sym a.updates) ∙ ap (update_one (filter_tree p.filter) p.updates) (sym a.listing.sort) ∙ same
+made_of UpdateMany t p k a e =
+    let same : update_many (filter_tree p.filter) p.updates p.listing.page ≡ k = sym (Prim.cc e) in
+    ap (λ f. update_many f (updates_of t) p.listing.page) (sym a.filter) ∙ ap (λ u. update_many (filter_tree p.filter) u p.listing.page) (sym a.updates) ∙ same
+made_of DeleteOne t p k a e =
+    let same : delete_one (filter_tree p.filter) p.listing.sort ≡ k = sym (Prim.cc e) in
+    ap (λ f. delete_one f (sort_of t)) (sym a.filter) ∙ ap (delete_one (filter_tree p.filter)) (sym a.listing.sort) ∙ same
+made_of DeleteMany t p k a e = let same : delete_many (filter_tree p.filter) ≡ k = sym (Prim.cc e) in ap delete_many (sym a.filter) ∙ same
 
 pub made_asks : (place : Place) (t : Tree) (name : Name) (p : Parts) (k : CommandTree) → Some k ≡ without_document name p → IsJudged place t name p → Asks place t k
 made_asks place t name p k e j = asked_is place t name p k j (made_of name j.inner p k j.are_parts e)
 
-given_small : (o : Option (List ℕ)) (page : Option PageState) → IsPage o page → IfSome page (λ s. s.given < 2 ^ 63)
+given_small : (o : Option (List ℕ)) (page : Option PageState) → IsPage o page → IsAskablePage page
 given_small None None h = tt
 given_small None (Some state) h = absurd h
 given_small (Some s) None h = absurd h
@@ -148,6 +161,11 @@ made_askable Find t p k a skip f e =
     subst IsAskable same (f, askable_paging t p a skip)
 made_askable CountDocuments t p k a skip f e = let same : count_documents (filter_tree p.filter) ≡ k = sym (Prim.cc e) in subst IsAskable same f
 made_askable UpdateOne t p k a skip f e = let same : update_one (filter_tree p.filter) p.updates p.listing.sort ≡ k = sym (Prim.cc e) in subst IsAskable same f
+made_askable UpdateMany t p k a skip f e =
+    let same : update_many (filter_tree p.filter) p.updates p.listing.page ≡ k = sym (Prim.cc e) in
+    subst IsAskable same (f, given_small (page_text t) p.listing.page a.listing.page)
+made_askable DeleteOne t p k a skip f e = let same : delete_one (filter_tree p.filter) p.listing.sort ≡ k = sym (Prim.cc e) in subst IsAskable same f
+made_askable DeleteMany t p k a skip f e = let same : delete_many (filter_tree p.filter) ≡ k = sym (Prim.cc e) in subst IsAskable same f
 
 pub made_ready : (place : Place) (t : Tree) (name : Name) (p : Parts) (k : CommandTree) → Some k ≡ without_document name p → IsJudged place t name p → IsAskableFilter (filter_tree p.filter) → IsAskable k
 made_ready place t name p k e j f = made_askable name j.inner p k j.are_parts j.sound.skip f e

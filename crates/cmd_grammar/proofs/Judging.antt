@@ -22,7 +22,7 @@ use Rattle.reply_env.specs.declared.fault.ReplyFault.{ReplyFault}
 use Rattle.cmd_grammar.specs.declared.fault.CommandFault.TheVariants.{NoMemory}
 use Rattle.cmd_grammar.specs.Answers.{Refuses, Passes, RefusesFirst, PassesAll}
 use Rattle.cmd_grammar.specs.declared.name.Name.{Name}
-use Rattle.cmd_grammar.specs.declared.name.Name.TheVariants.{InsertOne, FindOne, Find, CountDocuments, UpdateOne}
+use Rattle.cmd_grammar.specs.declared.name.Name.TheVariants.{InsertOne, FindOne, Find, CountDocuments, UpdateOne, UpdateMany, DeleteOne, DeleteMany}
 use Rattle.cmd_grammar.specs.declared.fault.CommandFault.{CommandFault}
 use Rattle.cmd_grammar.proofs.Order.{neither_fires, goes_on, refuses_first, refuses_before, fires, decides}
 
@@ -102,6 +102,9 @@ stored FindOne t h s = tt
 stored Find t h s = tt
 stored CountDocuments t h s = tt
 stored UpdateOne t h s = tt
+stored UpdateMany t h s = tt
+stored DeleteOne t h s = tt
+stored DeleteMany t h s = tt
 
 -- the filter and the update are read: the tests behind them decide
 behind_update : (t : Tree) → filter_refusal t ≡ None → update_refusal t ≡ None → parts_refusal t ≡ listing_refusal t

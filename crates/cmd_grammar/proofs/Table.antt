@@ -6,9 +6,9 @@ use Rattle.std.proofs.lemmas.Option.{slice_get-map}
 use Rattle.std.proofs.lemmas.Slice.Eq.{bytes_eq-Decides}
 use Rattle.name_tables.specs.Tables.{command_names}
 use Rattle.cmd_grammar.specs.declared.name.Name.{Name}
-use Rattle.cmd_grammar.specs.declared.name.Name.TheVariants.{InsertOne, FindOne, Find, CountDocuments, UpdateOne}
+use Rattle.cmd_grammar.specs.declared.name.Name.TheVariants.{InsertOne, FindOne, Find, CountDocuments, UpdateOne, UpdateMany, DeleteOne, DeleteMany}
 use Rattle.cmd_grammar.specs.declared.name.TheConstants.{IN_ORDER}
-use Rattle.cmd_grammar.specs.Names.{command_text, command_named, named_among}
+use Rattle.cmd_grammar.specs.Names.{command_text, command_named, named_among, built}
 
 rows-in_order : map command_named command_names ≡ IN_ORDER
 rows-in_order = refl
@@ -31,6 +31,9 @@ row_of FindOne = 2
 row_of Find = 3
 row_of CountDocuments = 4
 row_of UpdateOne = 5
+row_of UpdateMany = 6
+row_of DeleteOne = 7
+row_of DeleteMany = 8
 
 names-at : (name : Name) → slice_get command_names (row_of name) ≡ Some (command_text name)
 unfolding row_of
@@ -39,6 +42,9 @@ names-at FindOne = refl
 names-at Find = refl
 names-at CountDocuments = refl
 names-at UpdateOne = refl
+names-at UpdateMany = refl
+names-at DeleteOne = refl
+names-at DeleteMany = refl
 
 named_none : (names : List Name) (text : List ℕ) → ((i : ℕ) → slice_get command_names i ≡ Some text → ⊥) → named_among names text ≡ None
 named_none [] text h = refl
@@ -46,7 +52,7 @@ named_none (name ∷ names) text h =
     neither (bytes_eq (command_text name) text) name (named_among names text) (λ e. h (row_of name) (names-at name ∙ ap Some ((bytes_eq-Decides (command_text name) text).0 e))) (λ e. named_none names text h)
 
 pub no_command-at : (name : List ℕ) → ((i : ℕ) → (None ≡ Some i) ↔ (slice_get command_names i ≡ Some name)) → None ≡ command_named name
-no_command-at name found = sym (named_none (InsertOne ∷ FindOne ∷ Find ∷ CountDocuments ∷ UpdateOne ∷ []) name (λ i q. let none = (found i).1 q in Prim.cc none))
+no_command-at name found = sym (named_none built name (λ i q. let none = (found i).1 q in Prim.cc none))
 
 -- a text of which a command has the name is the command's
 either : (b : Bool) (x name : Name) (o : Option Name) (P : Name → Type 0) → (b ≡ true → P x) → (o ≡ Some name → P name) → (if b then Some x else o) ≡ Some name → P name

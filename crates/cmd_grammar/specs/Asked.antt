@@ -5,11 +5,11 @@ use Rattle.json_tree.specs.Tree.{Tree}
 use Rattle.doc_paths.specs.Name.{is_collection_name}
 use Rattle.view_sort.specs.declared.page.PageState.{PageState}
 use Rattle.reply_env.specs.declared.request.Place.{Place}
-use Rattle.cmd_grammar.specs.Commands.{CommandTree, insert_one, find_one, find, count_documents, update_one}
+use Rattle.cmd_grammar.specs.Commands.{CommandTree, insert_one, find_one, find, count_documents, update_one, update_many, delete_one, delete_many}
 use Rattle.cmd_grammar.specs.Parts.{filter_of, updates_of, sort_of, shows_of, document_of, limit_of, skip_of, IsPage}
 use Rattle.cmd_grammar.specs.Refused.{command_at, page_at}
 use Rattle.cmd_grammar.specs.declared.name.Name.{Name}
-use Rattle.cmd_grammar.specs.declared.name.Name.TheVariants.{InsertOne, FindOne, Find, CountDocuments, UpdateOne}
+use Rattle.cmd_grammar.specs.declared.name.Name.TheVariants.{InsertOne, FindOne, Find, CountDocuments, UpdateOne, UpdateMany, DeleteOne, DeleteMany}
 
 -- the command of this name with this value, and with this page state
 abbrev pub command_of : Option PageState → Name × Tree → CommandTree
@@ -18,6 +18,9 @@ command_of page (FindOne, t) = find_one (filter_of t) (sort_of t) (shows_of t)
 command_of page (Find, t) = find (filter_of t) (sort_of t) (shows_of t) (record { limit = limit_of t; skip = skip_of t; page = page })
 command_of page (CountDocuments, t) = count_documents (filter_of t)
 command_of page (UpdateOne, t) = update_one (filter_of t) (updates_of t) (sort_of t)
+command_of page (UpdateMany, t) = update_many (filter_of t) (updates_of t) page
+command_of page (DeleteOne, t) = delete_one (filter_of t) (sort_of t)
+command_of page (DeleteMany, t) = delete_many (filter_of t)
 
 -- the value asks for this command at the place
 pub record Asks (place : Place) (value : Tree) (command : CommandTree) : Type 0 where

@@ -6,13 +6,13 @@ use Rattle.filter_tree.specs.View.{filter_tree}
 use Rattle.reply_env.specs.declared.reply.ErrorItem.{ErrorItem}
 use Rattle.reply_env.specs.declared.request.Place.{Place}
 use Rattle.cmd_grammar.specs.First.{first_of}
-use Rattle.cmd_grammar.specs.Commands.{CommandTree, insert_one, find_one, find, count_documents, update_one, IsStorable}
+use Rattle.cmd_grammar.specs.Commands.{CommandTree, insert_one, find_one, find, count_documents, update_one, update_many, delete_one, delete_many, IsStorable}
 use Rattle.cmd_grammar.specs.Parts.{member_in, filter_of, updates_of, sort_of, shows_of, limit_of, skip_of, page_text, document_of, IsPage}
 use Rattle.cmd_grammar.specs.Refused.{command_at, keyspace_refusal, collection_refusal, projection_refusal, sort_refusal, inserted_refusal, command_refusal}
 use Rattle.cmd_grammar.specs.declared.parts.Listing.{Listing}
 use Rattle.cmd_grammar.specs.declared.parts.Parts.{Parts}
 use Rattle.cmd_grammar.specs.declared.name.Name.{Name}
-use Rattle.cmd_grammar.specs.declared.name.Name.TheVariants.{InsertOne, FindOne, Find, CountDocuments, UpdateOne}
+use Rattle.cmd_grammar.specs.declared.name.Name.TheVariants.{InsertOne, FindOne, Find, CountDocuments, UpdateOne, UpdateMany, DeleteOne, DeleteMany}
 
 -- the tests behind that of the command's name
 abbrev pub named_refusal : List ℕ → Place → Name × Tree → Option ErrorItem
@@ -61,6 +61,9 @@ without_document FindOne p = Some (find_one (filter_tree p.filter) p.listing.sor
 without_document Find p = Some (find (filter_tree p.filter) p.listing.sort p.listing.projection (record { limit = p.listing.limit; skip = p.listing.skip; page = p.listing.page }))
 without_document CountDocuments p = Some (count_documents (filter_tree p.filter))
 without_document UpdateOne p = Some (update_one (filter_tree p.filter) p.updates p.listing.sort)
+without_document UpdateMany p = Some (update_many (filter_tree p.filter) p.updates p.listing.page)
+without_document DeleteOne p = Some (delete_one (filter_tree p.filter) p.listing.sort)
+without_document DeleteMany p = Some (delete_many (filter_tree p.filter))
 
 -- the body is of an insertion whose document may be stored
 pub record IsInsertion (body : Tree) : Type 0 where

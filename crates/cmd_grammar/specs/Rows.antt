@@ -7,7 +7,7 @@ use Rattle.json_tree.specs.Tree.{Tree, null, text}
 use Rattle.filter_tree.specs.Faults.{is_object}
 use Rattle.cmd_grammar.specs.Parts.{whole_in}
 use Rattle.cmd_grammar.specs.declared.name.Name.{Name}
-use Rattle.cmd_grammar.specs.declared.name.Name.TheVariants.{InsertOne, FindOne, Find, CountDocuments, UpdateOne}
+use Rattle.cmd_grammar.specs.declared.name.Name.TheVariants.{InsertOne, FindOne, Find, CountDocuments, UpdateOne, UpdateMany, DeleteOne, DeleteMany}
 use Rattle.cmd_grammar.specs.declared.row.Kind.{Kind}
 use Rattle.cmd_grammar.specs.declared.row.Kind.TheVariants as kinds
 use Rattle.cmd_grammar.specs.declared.row.Field as declared_field
@@ -61,6 +61,9 @@ row FindOne = record { members = filter ∷ sort ∷ projection ∷ []; options 
 row Find = record { members = filter ∷ sort ∷ projection ∷ []; options = Some (limit ∷ skip ∷ page_state ∷ []) }
 row CountDocuments = record { members = filter ∷ []; options = None }
 row UpdateOne = record { members = filter ∷ update ∷ sort ∷ []; options = Some [] }
+row UpdateMany = record { members = filter ∷ update ∷ []; options = Some (page_state ∷ []) }
+row DeleteOne = record { members = filter ∷ sort ∷ []; options = None }
+row DeleteMany = record { members = filter ∷ []; options = None }
 
 abbrev pub is_text_or_null : Tree → Bool
 is_text_or_null null = true

@@ -37,4 +37,19 @@ pub enum Command {
         updates: Updates,
         sort: Sort,
     },
+    /// To update the documents of one page that match. The page begins behind the one that `page` tells.
+    UpdateMany {
+        filter: Filter,
+        updates: Updates,
+        page: Option<PageState>,
+    },
+    /// To delete the first document that matches, in the order of the sort.
+    DeleteOne {
+        filter: Filter,
+        sort: Sort,
+    },
+    /// To delete the documents of one page that match.
+    DeleteMany {
+        filter: Filter,
+    },
 }

@@ -12,6 +12,9 @@ pub(crate) enum Name {
     Find,
     CountDocuments,
     UpdateOne,
+    UpdateMany,
+    DeleteOne,
+    DeleteMany,
 }
 
 // In the order of the table of names; those that aren't built have none.
@@ -22,9 +25,9 @@ const IN_ORDER: [Option<Name>; 15] = [
     Some(Name::Find),
     Some(Name::CountDocuments),
     Some(Name::UpdateOne),
-    None,
-    None,
-    None,
+    Some(Name::UpdateMany),
+    Some(Name::DeleteOne),
+    Some(Name::DeleteMany),
     None,
     None,
     None,
@@ -61,6 +64,9 @@ impl Name {
             Name::Find => "find",
             Name::CountDocuments => "countDocuments",
             Name::UpdateOne => "updateOne",
+            Name::UpdateMany => "updateMany",
+            Name::DeleteOne => "deleteOne",
+            Name::DeleteMany => "deleteMany",
         }
     }
 }

@@ -135,5 +135,15 @@ pub(crate) fn without_document(name: Name, parts: Parts) -> Option<Command>
             updates,
             sort: listing.sort,
         }),
+        Name::UpdateMany => Some(Command::UpdateMany {
+            filter,
+            updates,
+            page: listing.page,
+        }),
+        Name::DeleteOne => Some(Command::DeleteOne {
+            filter,
+            sort: listing.sort,
+        }),
+        Name::DeleteMany => Some(Command::DeleteMany { filter }),
     }
 }

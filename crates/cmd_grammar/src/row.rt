@@ -106,6 +106,21 @@ const UPDATE_ONE: Row = Row {
     options: Some(&[]),
 };
 
+const UPDATE_MANY: Row = Row {
+    members: &[FILTER, UPDATE],
+    options: Some(&[PAGE_STATE]),
+};
+
+const DELETE_ONE: Row = Row {
+    members: &[FILTER, SORT],
+    options: None,
+};
+
+const DELETE_MANY: Row = Row {
+    members: &[FILTER],
+    options: None,
+};
+
 /// The row of a command.
 pub(crate) fn table_row(name: Name) -> Row
     ensures { row_of result ≡ row name }
@@ -116,6 +131,9 @@ pub(crate) fn table_row(name: Name) -> Row
         Name::Find => FIND,
         Name::CountDocuments => COUNT_DOCUMENTS,
         Name::UpdateOne => UPDATE_ONE,
+        Name::UpdateMany => UPDATE_MANY,
+        Name::DeleteOne => DELETE_ONE,
+        Name::DeleteMany => DELETE_MANY,
     }
 }
 

@@ -1,5 +1,6 @@
 // Requests and what they are read as, or refused by, worked out by hand.
 mod asked;
+mod many;
 mod paging;
 mod rows;
 
@@ -121,6 +122,9 @@ fn text_of(alloc: Global, read: Result<Command, CommandFault>) -> Result<Vec<u8>
         Ok(Command::Find { .. }) => Ok(b"find".to_vec(alloc)?),
         Ok(Command::CountDocuments { .. }) => Ok(b"countDocuments".to_vec(alloc)?),
         Ok(Command::UpdateOne { .. }) => Ok(b"updateOne".to_vec(alloc)?),
+        Ok(Command::UpdateMany { .. }) => Ok(b"updateMany".to_vec(alloc)?),
+        Ok(Command::DeleteOne { .. }) => Ok(b"deleteOne".to_vec(alloc)?),
+        Ok(Command::DeleteMany { .. }) => Ok(b"deleteMany".to_vec(alloc)?),
         Err(CommandFault::Refused { code, message }) => refused_text(alloc, code, message),
         Err(CommandFault::NoMemory) => Ok(b"no memory".to_vec(alloc)?),
     }
@@ -161,7 +165,7 @@ fn row_holds(alloc: Global, row: &str) -> Result<bool, Fail> {
 #[test]
 fn requests_are_read_or_refused(rt: HostRuntime) -> Result<(), Fail> {
     let alloc = rt.alloc();
-    for rows in [rows::ROWS, paging::ROWS] {
+    for rows in [rows::ROWS, paging::ROWS, many::ROWS] {
         for row in rows.split('\n') {
             assert!(rt; row_holds(alloc, row)?, "{row}");
         }

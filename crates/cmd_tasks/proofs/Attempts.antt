@@ -1,7 +1,5 @@
 -- An attempt on a document that a look showed: what stands there then, and who wrote between.
-use Rattle.std.proofs.Common.{◌≡◌, ◌≢◌, ℕ, ◌+◌, ◌-◌, ◌<◌, ◌≤◌, List, [], ◌∷◌, ◌++◌, map, take, drop, length, Bool, true, false, cond, not, ◌&&◌, ◌||◌, Option, Some, None, refl, sym, ap, ◌∙◌, subst, arith, length-drop, append-nil, Less, Equal, Greater, Ordering}
-use Rattle.std.specs.Prelude.{option_and_then}
-use Rattle.std.specs.Option.{option_map}
+use Rattle.std.proofs.Common.{◌≡◌, ◌≢◌, ℕ, ◌+◌, ◌-◌, ◌<◌, ◌≤◌, List, [], ◌∷◌, ◌++◌, map, take, drop, length, Bool, true, false, cond, not, ◌&&◌, ◌||◌, Option, Some, refl, sym, ap, ◌∙◌, subst, arith, length-drop, append-nil, Less, Equal, Greater, Ordering}
 use Rattle.std.specs.List.{filter, list_any, AllByRecursion as Each}
 use Rattle.std.specs.Ordering.{is_lt, is_eq, ordering_reverse}
 use Rattle.std.proofs.lemmas.Cmp.{tied_itself}
@@ -10,7 +8,7 @@ use Rattle.json_tree.specs.Tree.{Tree}
 use Rattle.json_tree.specs.Id.{id_cmp}
 use Rattle.shred_cols.specs.Row.{Version}
 use Rattle.shred_cols.specs.Rows.{Rows, ascends, version_of, first}
-use Rattle.col_keeper.specs.Tables.{Name, AreApart, rows_in}
+use Rattle.col_keeper.specs.Tables.{Name, AreApart}
 use Rattle.filter_tree.specs.Filters.{FilterTree}
 use Rattle.store_core.specs.State.{State as Base, IsOld, version, number_at}
 use Rattle.store_core.specs.Journal.{IsJournal, replay, state_at}
@@ -79,7 +77,7 @@ none_there k m n (e ∷ es) le h = elim (is_work k e) as (λ b. is_work k e ≡ 
   | false ↦ λ w b. (w, none_there k (m + 1) n es (omega arith) b)
 ] refl h
 
-drop_drop : {A : Type 0} (p n : ℕ) (xs : List A) → p ≤ n → n ≤ length xs → (front : List A) × (drop p xs ≡ front ++ drop n xs) × (p + length front ≡ n)
+pub drop_drop : {A : Type 0} (p n : ℕ) (xs : List A) → p ≤ n → n ≤ length xs → (front : List A) × (drop p xs ≡ front ++ drop n xs) × (p + length front ≡ n)
 drop_drop p n xs a b = (take (n - p) (drop p xs), sym (take-append-drop (n - p) (drop p xs)) ∙ ap (λ (z : List _). take (n - p) (drop p xs) ++ z) (again p n xs a), let l = length-take-le (n - p) (drop p xs) (let d = length-drop p xs in omega arith) in omega arith)
   where
     again : {A : Type 0} (p n : ℕ) (xs : List A) → p ≤ n → drop (n - p) (drop p xs) ≡ drop n xs

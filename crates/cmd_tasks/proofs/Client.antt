@@ -15,7 +15,8 @@ use Rattle.filter_tree.specs.Filters.{FilterTree}
 use Rattle.view_sort.specs.Page.{state_text}
 use Rattle.view_sort.specs.View.{view}
 use Rattle.view_sort.specs.declared.page.PageState.{PageState}
-use Rattle.reply_env.specs.Reply.{IsRefusal}
+use Rattle.reply_env.specs.Reply.{IsRefusalAfter}
+use Rattle.reply_env.specs.declared.reply.SoFar.{SoFar}
 use Rattle.reply_env.specs.declared.reply.ErrorItem.{ErrorItem}
 use Rattle.reply_env.specs.declared.reply.Reply.{Reply}
 use Rattle.reply_env.specs.declared.reply.Reply.TheVariants.{Listed}
@@ -75,9 +76,9 @@ last_past (y ∷ z ∷ xs) x id up e h = (after_after (Some y.id) x.id id (last_
 
 -- ---- replies
 
-not_refusal : (error : ErrorItem) (r : Reply) → Lists r → IsRefusal error r → ⊥
-not_refusal error (Listed views state) l h = h
-not_refusal error r l h = l
+not_refusal : (done : Option SoFar) (error : ErrorItem) (r : Reply) → Lists r → IsRefusalAfter done error r → ⊥
+not_refusal done error (Listed views state) l h = h
+not_refusal done error r l h = l
 
 told_listed : (ds : List Tree) (next : Option (List ℕ)) (r : Reply) → TellsListed ds next r → (views_of r ≡ ds) × (state_of r ≡ next)
 told_listed ds next (Listed views state) h = h
@@ -132,7 +133,7 @@ module _ (base : State) (H : List Entry) (coll : Name) (f : FilterTree) (shows :
   is_seen p h = ⊎_elim
       (λ (a : IsPartOf base coll p.session p.moment (find f [] shows (paging_of p)) (seen_in p) × Answers base coll p.session p.moment (find f [] shows (paging_of p)) (seen_in p) p.reply).
       ⊎_elim (λ q. absurd (no q.0)) (λ q. let told = told_listed _ _ p.reply q.1 in record { listing = is_listing p.session p.moment (paging_of p) (seen_in p) a.0; listed = a.1.0; views = told.0; state = told.1 }) a.1.1)
-      (λ other. ⊎_elim (λ stopped. absurd (not_refusal stopped.0 p.reply h.1 stopped.2)) (λ cut. absurd (subst Lists cut.1 h.1)) other)
+      (λ other. ⊎_elim (λ stopped. absurd (not_refusal _ stopped.0 p.reply h.1 stopped.2)) (λ cut. absurd (subst Lists cut.1 h.1)) other)
       h.0
     where
       no : false ≡ true → ⊥

@@ -1,5 +1,5 @@
 -- A task that steps while another session writes.
-use Rattle.std.proofs.Common.{◌≡◌, ◌≢◌, ℕ, ◌<◌, ◌≤◌, List, ◌++◌, length, Option, refl, sym, ◌∙◌, subst, arith}
+use Rattle.std.proofs.Common.{◌≡◌, ◌≢◌, ℕ, ◌<◌, ◌≤◌, List, ◌++◌, length, Option, sym, ◌∙◌, subst, arith}
 use Rattle.store_core.specs.State.{State as Base}
 use Rattle.store_core.specs.Counts.{AllBy, opened_in}
 use Rattle.store_core.specs.declared.entry.Entry.{Entry}

@@ -38,7 +38,7 @@ up_to_before x u y Less Greater e q h k = cc
 up_to_before x u y Greater p e q h k = cc
 
 -- the id is behind u, or up to it
-beyond : (id u : Tree) (o p : Ordering) → p ≡ ordering_reverse o → is_le o ≡ false → is_lt p ≡ true
+pub beyond : (id u : Tree) (o p : Ordering) → p ≡ ordering_reverse o → is_le o ≡ false → is_lt p ≡ true
 beyond id u Less p q h = cc
 beyond id u Equal p q h = cc
 beyond id u Greater p q h = ap is_lt q
@@ -81,11 +81,11 @@ pub each_weaker : {A : Type 0} (P Q : A → Type 0) → ((a : A) → P a → Q a
 each_weaker P Q go [] h = tt
 each_weaker P Q go (x ∷ xs) h = (go x h.0, each_weaker P Q go xs h.1)
 
-each_of_map : {A B : Type 0} (P : B → Type 0) (g : A → B) (xs : List A) → Each P (map g xs) → Each (λ x. P (g x)) xs
+pub each_of_map : {A B : Type 0} (P : B → Type 0) (g : A → B) (xs : List A) → Each P (map g xs) → Each (λ x. P (g x)) xs
 each_of_map P g [] h = tt
 each_of_map P g (x ∷ xs) h = (h.0, each_of_map P g xs h.1)
 
-each_own : {A : Type 0} (xs : List A) → Each (λ x. IsOneOf x xs) xs
+pub each_own : {A : Type 0} (xs : List A) → Each (λ x. IsOneOf x xs) xs
 each_own [] = tt
 each_own (x ∷ xs) = ((zero, refl), each_weaker _ _ (λ a h. (suc h.0, h.1)) xs (each_own xs))
 
@@ -105,14 +105,14 @@ pub rise_append : (xs ys : List Found) → Rise xs → Rise ys → Each (λ y. I
 rise_append [] ys up more past = more
 rise_append (x ∷ xs) ys up more past = (each_append _ xs ys up.0 (each_weaker _ _ (λ y h. h.0) ys past), rise_append xs ys up.1 more (each_weaker _ _ (λ y h. h.1) ys past))
 
-and_parts : (a b : Bool) → a && b ≡ true → (a ≡ true) × (b ≡ true)
+pub and_parts : (a b : Bool) → a && b ≡ true → (a ≡ true) × (b ≡ true)
 and_parts true b h = (refl, h)
 and_parts false b h = cc
 
 -- ---- the documents of an interval
 
 module _ (f : FilterTree) (a u : Option Tree) where
-  abbrev inside : Row → Bool
+  abbrev pub inside : Row → Bool
   inside e = is_after a e.0 && (up_to u e.0 && matches f e.1.doc)
 
   each_found : (P : Row → Type 0) (Q : Found → Type 0) → ((e : Row) → inside e ≡ true → P e → Q (found e)) → (r : Rows) → Each P r → Each Q (found_in r f a u)
@@ -128,7 +128,7 @@ module _ (f : FilterTree) (a u : Option Tree) where
         | false ↦ found_rise r h.1
       ]
 
-  is_found : (e : Row) (r : Rows) → inside e ≡ true → IsOneOf e r → IsOneOf (found e) (found_in r f a u)
+  pub is_found : (e : Row) (r : Rows) → inside e ≡ true → IsOneOf e r → IsOneOf (found e) (found_in r f a u)
   is_found e [] q h = cc
   is_found e (d ∷ r) q (zero, h) = subst (λ d. IsOneOf (found e) (map found (cond (inside d) (d ∷ filter inside r) (filter inside r)))) (sym (same d e h)) (subst (λ t. IsOneOf (found e) (map found (cond t (e ∷ filter inside r) (filter inside r)))) (sym q) (zero, refl))
   is_found e (d ∷ r) q (suc n, h) =
@@ -153,7 +153,7 @@ module _ (f : FilterTree) (a u : Option Tree) where
 
 module _ (base : State) (coll : Name) (f : FilterTree) (r : Rows) where
   -- what comes after the end of a full page comes after its start and all that it shows
-  look_behind : (i : Item) (from : Option Tree) (y : Tree) → Looks base coll f r from i → FullPage base coll f r i → is_after (end_of i) y ≡ true → (is_after from y ≡ true) × IsPast y (seen_by base coll f r i)
+  pub look_behind : (i : Item) (from : Option Tree) (y : Tree) → Looks base coll f r from i → FullPage base coll f r i → is_after (end_of i) y ≡ true → (is_after from y ≡ true) × IsPast y (seen_by base coll f r i)
   look_behind (Looked at after up page) from y is full h = go up full.0.0 full.0.1 full.1 h
     where
       go : (up : Option Tree) (w : Tree) → up ≡ Some w → probed_in r f after up ≡ 64 → is_after up y ≡ true → (is_after from y ≡ true) × IsPast y (found_in r f after up)
@@ -172,7 +172,7 @@ module _ (base : State) (coll : Name) (f : FilterTree) (r : Rows) where
   look_behind (Faulted at before count) from y is full h = absurd is
 
   -- a look shows documents after its start, in order of id
-  look_rises : (i : Item) (from : Option Tree) → ascends r ≡ true → Looks base coll f r from i → Each (λ x. is_after from x.id ≡ true) (seen_by base coll f r i) × Rise (seen_by base coll f r i)
+  pub look_rises : (i : Item) (from : Option Tree) → ascends r ≡ true → Looks base coll f r from i → Each (λ x. is_after from x.id ≡ true) (seen_by base coll f r i) × Rise (seen_by base coll f r i)
   look_rises (Looked at after up page) from sorted is =
       (each_found f after up (λ e. IsOneOf e r) (λ x. is_after from x.id ≡ true) (λ e q one. subst (λ o. is_after o e.0 ≡ true) is.0 (and_parts _ _ q).0) r (each_own r), found_rise f after up r (rises r sorted))
   look_rises (Wrote at) from sorted is = absurd is

@@ -1,6 +1,6 @@
 -- Searches that have made no look, and what searches found: the first of it, by cases on the sort.
-use Rattle.std.proofs.Common.{◌≡◌, ℕ, zero, suc, ◌+◌, ◌<◌, ◌≤◌, List, [], ◌∷◌, ◌++◌, map, take, length, Bool, true, false, not, ◌&&◌, Option, Some, None, refl, sym, ap, ◌∙◌, subst, arith, ⊎_elim}
-use Rattle.std.specs.Prelude.{IfSome, IsSome, MatchOption, is_none, nat_lt, if◌then◌else◌}
+use Rattle.std.proofs.Common.{◌≡◌, ℕ, zero, suc, ◌<◌, List, [], ◌∷◌, map, take, length, true, false, not, ◌&&◌, Option, Some, None, refl, sym, ap, ◌∙◌, subst, arith, ⊎_elim}
+use Rattle.std.specs.Prelude.{IfSome, IsSome, MatchOption, is_none, if◌then◌else◌}
 use Rattle.std.specs.Option.{option_map}
 use Rattle.std.specs.List.{AllByRecursion as Each}
 use Rattle.std.specs.Ordering.{is_gt}
@@ -15,7 +15,7 @@ use Rattle.filter_tree.specs.Filters.{FilterTree}
 use Rattle.view_sort.specs.Sort.{SortKeys}
 use Rattle.store_core.specs.State.{State as Base}
 use Rattle.cmd_tasks.specs.Trace.{Sight, Found, up_to, end_of, shown, FullPage, GoesOn, IsListed, rows_now}
-use Rattle.cmd_tasks.specs.Searches.{bound, is_too_many, in_order, is_whole, first_of}
+use Rattle.cmd_tasks.specs.Searches.{bound, is_too_many, in_order, first_of}
 use Rattle.cmd_tasks.specs.Pages.{found_row}
 use Rattle.cmd_tasks.specs.Searching.{IsFresh, IsSearching}
 use Rattle.cmd_tasks.specs.declared.work.Search.{Search}

@@ -7,19 +7,37 @@ mod Lasts
 mod Fresh
 mod PageStates
 mod Glances
+mod Shorts
 mod Keeping
 mod Searching
 mod Requests
 mod Selecting
 mod Beginnings
+mod Accepted
 mod Standing
 mod Running
 mod Opening
 pub mod Attempts
 pub mod Lookback
+mod Fitting
 pub mod Rounds
 pub mod Tries
 pub mod Contests
 mod Ascent
 mod Covering
 mod Client
+mod Stepping
+mod Tallying
+mod Reaching
+mod Telling
+mod Deletions
+mod Settling
+mod Goings
+mod Waiting
+mod Apart
+mod Following
+mod Leavings
+mod Pagings
+mod Trials
+mod Retrials
+mod Fewness

@@ -39,7 +39,7 @@ lt_le Less e = refl
 lt_le Equal e = cc
 lt_le Greater e = cc
 
-lt_not_le : (o p : Ordering) → p ≡ ordering_reverse o → is_lt o ≡ true → is_le p ≡ false
+pub lt_not_le : (o p : Ordering) → p ≡ ordering_reverse o → is_lt o ≡ true → is_le p ≡ false
 lt_not_le Less p r e = ap is_le r
 lt_not_le Equal p r e = cc
 lt_not_le Greater p r e = cc

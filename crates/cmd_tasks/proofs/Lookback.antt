@@ -1,5 +1,5 @@
 -- A look of the present round: where its item stands in the trace, and what happened since.
-use Rattle.std.proofs.Common.{◌≡◌, ◌≢◌, ℕ, zero, suc, ◌+◌, ◌<◌, ◌≤◌, List, [], ◌∷◌, ◌++◌, map, take, drop, reverse, length, Bool, true, false, cond, Option, Some, None, refl, sym, ap, ◌∙◌, subst, arith, append_assoc, append-nil}
+use Rattle.std.proofs.Common.{◌≡◌, ◌≢◌, ℕ, zero, suc, ◌≤◌, List, [], ◌∷◌, ◌++◌, map, take, drop, reverse, length, true, false, cond, Option, Some, refl, sym, ap, ◌∙◌, subst, append_assoc, append-nil}
 use Rattle.std.specs.Prelude.{slice_get}
 use Rattle.std.specs.List.{list_any}
 use Rattle.std.proofs.lemmas.List.{length-take-le, map-append, reverse-append, reverse-reverse}
@@ -13,7 +13,7 @@ use Rattle.cmd_tasks.specs.Trace.{Sight, sight, point, writes, Found, now}
 use Rattle.cmd_tasks.specs.Searches.{stored}
 use Rattle.cmd_tasks.specs.Attempts.{IsOneOf, comes_between}
 use Rattle.cmd_tasks.specs.Served.{round, sights}
-use Rattle.cmd_tasks.specs.Session.{AreOrdered, AreWithin, behind, places, written, NoWork}
+use Rattle.cmd_tasks.specs.Session.{AreOrdered, AreWithin, behind, written}
 use Rattle.cmd_tasks.specs.Placed.{OwnFrom, IsPlaced}
 use Rattle.cmd_tasks.specs.Searching.{IsSeen}
 use Rattle.cmd_tasks.specs.declared.trace.Item.{Item}
@@ -32,7 +32,7 @@ pub record LooksBack (H : List Entry) (trace : List Item) (look : Sight) : Type 
   pub quiet : writes item ≡ false
   pub none_wrote : written later ≡ []
 
-same_sight : (a b : Sight) → ◌≡◌ {A = Option Sight} (Some a) (Some b) → a ≡ b
+pub same_sight : (a b : Sight) → ◌≡◌ {A = Option Sight} (Some a) (Some b) → a ≡ b
 same_sight a b e = cc
 
 abbrev no_sights : List Sight
@@ -70,7 +70,7 @@ looks_back H (Wrote at ∷ rs) look h = absurd (not_there h.0 look h.1)
 looks_back H (Lost at read found ∷ rs) look h = absurd (not_there h.0 look h.1)
 looks_back H (Faulted at before count ∷ rs) look h = absurd (not_there h.0 look h.1)
 
-reverse_map : (H : List Entry) (xs : List Item) → reverse (map (sight H) xs) ≡ map (sight H) (reverse xs)
+pub reverse_map : (H : List Entry) (xs : List Item) → reverse (map (sight H) xs) ≡ map (sight H) (reverse xs)
 reverse_map H [] = refl
 reverse_map H (x ∷ xs) = reverse-append (sight H x ∷ []) (map (sight H) xs) ∙ (ap (λ (z : List Sight). z ++ sight H x ∷ []) (reverse_map H xs) ∙ (sym (map-append (sight H) (reverse xs) (x ∷ [])) ∙ ap (map (sight H)) (sym (reverse-append (x ∷ []) xs))))
 

@@ -1,7 +1,6 @@
 -- How each command goes on, or is answered.
-use Rattle.std.proofs.Common.{◌≡◌, ◌≢◌, ℕ, ℤ, ◌+◌, ◌<◌, ◌≤◌, List, [], ◌∷◌, ◌++◌, map, take, length, true, false, ◌-◌, ◌^◌, Option, Some, None, refl, sym, ap, ◌∙◌, subst, arith, inl, inr, length-append, Vec, Global, leb, ◌⊎◌, ⊎_elim}
-use Rattle.std.specs.Prelude.{⊤, nat_le, if◌then◌else◌, IfSome, slice_get}
-use Rattle.std.specs.Option.{option_map}
+use Rattle.std.proofs.Common.{◌≡◌, ◌≢◌, ℕ, ℤ, ◌+◌, ◌<◌, ◌≤◌, List, [], ◌∷◌, ◌++◌, take, length, true, false, ◌-◌, ◌^◌, Option, Some, None, refl, sym, ap, ◌∙◌, subst, arith, inl, inr, length-append, Vec, Global, leb, ◌⊎◌, ⊎_elim}
+use Rattle.std.specs.Prelude.{⊤, nat_le, if◌then◌else◌}
 use Rattle.std.proofs.lemmas.List.{length-map}
 use Rattle.std.proofs.lemmas.Bool.{leb-true}
 use Rattle.std.proofs.lemmas.Bool.Decides.{leb_tells}
@@ -10,13 +9,14 @@ use Rattle.json_tree.specs.Tree.{Tree}
 use Rattle.json_tree.specs.View.{tree}
 use Rattle.json_tree.specs.declared.value.Value.{Value}
 use Rattle.shred_cols.specs.Row.{Version, id_of}
-use Rattle.shred_cols.specs.Rows.{Rows, first}
+use Rattle.shred_cols.specs.Rows.{Rows}
 use Rattle.col_keeper.specs.Tables.{Name}
 use Rattle.filter_tree.specs.Filters.{FilterTree}
 use Rattle.filter_tree.specs.View.{filter_tree}
 use Rattle.reply_env.specs.Messages as errors
-use Rattle.reply_env.specs.Reply.{IsRefusal}
+use Rattle.reply_env.specs.Reply.{IsRefusal, IsRefusalAfter}
 use Rattle.reply_env.specs.declared.reply.ErrorItem.{ErrorItem}
+use Rattle.reply_env.specs.declared.reply.SoFar.{SoFar}
 use Rattle.reply_env.specs.declared.reply.Reply.{Reply}
 use Rattle.reply_env.specs.declared.reply.Reply.TheVariants.{NoMemory}
 use Rattle.store_core.specs.State.{State as Base, IsGone, number_at}
@@ -27,9 +27,9 @@ use Rattle.store_core.specs.declared.entry.Change.TheVariants.{Insert}
 use Rattle.store_core.specs.declared.outcome.WriteOutcome.{WriteOutcome}
 use Rattle.store_core.specs.declared.outcome.WriteOutcome.TheVariants as w
 use Rattle.view_sort.specs.Sort.{SortKeys}
-use Rattle.cmd_grammar.specs.Commands.{CommandTree, Shows, Paging, insert_one, find_one, find, count_documents, update_one}
+use Rattle.cmd_grammar.specs.Commands.{CommandTree, Shows, Paging, insert_one, find_one, find, count_documents, update_one, update_many, delete_one, delete_many}
 use Rattle.cmd_tasks.specs.Trace.{Sight, sight, now, shown, shown_by, IsLook, Looks}
-use Rattle.cmd_tasks.specs.Served.{IsPartOf, Serves, Stops, Marks, IsToWrite, IsMarked, IsInserted, IsTaken, TellsInserted, counted, accepted, one_if_wrote}
+use Rattle.cmd_tasks.specs.Served.{IsPartOf, Serves, Stops, Marks, IsToWrite, IsMarked, done_by, IsInserted, IsTaken, TellsInserted, counted, accepted, one_if_wrote}
 use Rattle.cmd_tasks.specs.Pages.{found_row}
 use Rattle.cmd_tasks.specs.Wanted.{IsWanted}
 use Rattle.cmd_tasks.specs.Looking.{Made, Glances, Sees, StopsSo, Refuses, IsLooked}
@@ -41,7 +41,6 @@ use Rattle.cmd_tasks.specs.declared.work.State.{State}
 use Rattle.cmd_tasks.specs.declared.work.State.TheVariants.{Inserting, Counting}
 use Rattle.cmd_tasks.specs.declared.work.Moved.{Moved}
 use Rattle.cmd_tasks.specs.declared.work.Moved.TheVariants as m
-use Rattle.cmd_tasks.specs.declared.work.Glance.{Glance}
 use Rattle.cmd_tasks.specs.declared.work.Glance.TheVariants as g
 use Rattle.cmd_tasks.proofs.Glances.{saw, saw_before, saw_entry, lost_here, looked_here, failed_here}
 
@@ -96,8 +95,19 @@ gone_not_spent at n e = cc
 pub marked_so : (coll : Name) (k : ℕ) (base : Base) (W : Type 0) (s : Sight) (error : ErrorItem) → W → IsNoWrite coll (now base coll s) error → IsMarked base coll k W s error
 marked_so coll k base W s error writes cause = ⊎_elim (λ z. inl (writes, z.0, z.1)) (λ z. inr ((λ w. z.0), z.1, z.2)) cause
 
+-- commands that end with their first accepted write
+abbrev pub IsSingle : CommandTree → Type 0
+IsSingle (insert_one d) = ⊤
+IsSingle (find_one f sort shows) = ⊤
+IsSingle (find f sort shows p) = ⊤
+IsSingle (count_documents f) = ⊤
+IsSingle (update_one f u sort) = ⊤
+IsSingle (update_many f u page) = ⊥
+IsSingle (delete_one f sort) = ⊤
+IsSingle (delete_many f) = ⊥
+
 module _ (base : Base) (coll : Name) (k : ℕ) (moment : ℤ) where
-  looks_wrote : (f : FilterTree) (r : Rows) (from : Option Tree) (i : Item) → Looks base coll f r from i → one_if_wrote i ≡ 0
+  pub looks_wrote : (f : FilterTree) (r : Rows) (from : Option Tree) (i : Item) → Looks base coll f r from i → one_if_wrote i ≡ 0
   looks_wrote f r from (Looked at after up shown) h = refl
   looks_wrote f r from (Wrote at) h = absurd h
   looks_wrote f r from (Lost at read found) h = absurd h
@@ -115,34 +125,48 @@ module _ (base : Base) (coll : Name) (k : ℕ) (moment : ℤ) where
   count_accepts f [] h = refl
   count_accepts f (s ∷ earlier) h = let a = count_accepts f earlier h.0 in let b = looks_wrote f _ _ s.item h.2.1 in omega arith
 
-  accepts : (c : CommandTree) (s : List Sight) → IsBegun base coll k moment c s → accepted s ≡ 0
-  accepts (insert_one d) s h = ap accepted h.1
-  accepts (find_one f sort shows) s h = find_one_accepts f sort shows s h.0
-  accepts (find f sort shows p) s h = find_accepts f sort shows p s h.0
-  accepts (count_documents f) s h = count_accepts f s h.0
-  accepts (update_one f u sort) s h = h.1.0
+  -- as long as one that ends with its first accepted write is under way, none was accepted
+  pub accepts : (c : CommandTree) → IsSingle c → (s : List Sight) → IsBegun base coll k moment c s → accepted s ≡ 0
+  accepts (insert_one d) one s h = ap accepted h.1
+  accepts (find_one f sort shows) one s h = find_one_accepts f sort shows s h.0
+  accepts (find f sort shows p) one s h = find_accepts f sort shows p s h.0
+  accepts (count_documents f) one s h = count_accepts f s h.0
+  accepts (update_one f u sort) one s h = h.1.0
+  accepts (update_many f u page) one s h = absurd one
+  accepts (delete_one f sort) one s h = h.1.0
+  accepts (delete_many f) one s h = absurd one
+
+  nothing_done : (c : CommandTree) → IsSingle c → (s : List Sight) → done_by base coll k moment c s ≡ None
+  nothing_done (insert_one d) one s = refl
+  nothing_done (find_one f sort shows) one s = refl
+  nothing_done (find f sort shows p) one s = refl
+  nothing_done (count_documents f) one s = refl
+  nothing_done (update_one f u sort) one s = refl
+  nothing_done (update_many f u page) one s = absurd one
+  nothing_done (delete_one f sort) one s = refl
+  nothing_done (delete_many f) one s = absurd one
 
   -- a request that is under way may end for want of memory
-  pub cut_off : (c : CommandTree) (s : List Sight) → IsBegun base coll k moment c s → Serves base coll k moment c s (NoMemory 0)
-  cut_off c s h = inr (inr (inl h.0, ap NoMemory (sym (accepts c s h))))
+  pub cut_off : (c : CommandTree) (s : List Sight) → IsBegun base coll k moment c s → Serves base coll k moment c s (NoMemory (accepted s))
+  cut_off c s h = inr (inr (inl h.0, refl))
 
-  stops_wrote : (marks : Option Tree → Option Tree → Type 0) (to_write : Type 0) (i : Item) (s : Sight) (error : ErrorItem) → Stops base coll k marks to_write i s error → one_if_wrote i ≡ 0
+  pub stops_wrote : (marks : Option Tree → Option Tree → Type 0) (to_write : Type 0) (i : Item) (s : Sight) (error : ErrorItem) → Stops base coll k marks to_write i s error → one_if_wrote i ≡ 0
   stops_wrote marks to_write (Looked at after up shown) s error h = refl
   stops_wrote marks to_write (Wrote at) s error h = absurd h
   stops_wrote marks to_write (Lost at read found) s error h = absurd h
   stops_wrote marks to_write (Faulted at before count) s error h = refl
 
   -- a request that stops at an item, whether its error was told or memory was wanting
-  pub stopped_serves : (c : CommandTree) (earlier : List Sight) (s : Sight) (error : ErrorItem) (reply : Reply) → IsBegun base coll k moment c earlier
-      → Stops base coll k (Marks base coll k c earlier) (IsToWrite base coll k c earlier) s.item s error → Refuses error reply → Serves base coll k moment c (s ∷ earlier) reply
-  stopped_serves c earlier s error reply begun stops refuses = ⊎_elim
-      (λ (r : IsRefusal error reply). inr (inl (error, (begun.0, begun.1, stops), r)))
-      (λ (e : reply ≡ NoMemory 0). let a = accepts c earlier begun in let b = stops_wrote _ _ s.item s error stops in let z : 0 ≡ one_if_wrote s.item + accepted earlier = omega arith in inr (inr (inr (error, (begun.0, begun.1, stops)), e ∙ ap NoMemory z)))
+  pub stopped_serves : (c : CommandTree) → IsSingle c → (earlier : List Sight) (s : Sight) (error : ErrorItem) (reply : Reply) → IsBegun base coll k moment c earlier
+      → Stops base coll k (Marks base coll k moment c earlier) (IsToWrite base coll k moment c earlier) s.item s error → Refuses error reply → Serves base coll k moment c (s ∷ earlier) reply
+  stopped_serves c one earlier s error reply begun stops refuses = ⊎_elim
+      (λ (r : IsRefusal error reply). inr (inl (error, (begun.0, begun.1, stops), subst (λ (z : Option SoFar). IsRefusalAfter z error reply) (sym (nothing_done c one earlier)) r)))
+      (λ (e : reply ≡ NoMemory 0). let a = accepts c one earlier begun in let b = stops_wrote _ _ s.item s error stops in let z : 0 ≡ one_if_wrote s.item + accepted earlier = omega arith in inr (inr (inr (error, (begun.0, begun.1, stops)), e ∙ ap NoMemory z)))
       refuses
 
-  pub failed_serves : (c : CommandTree) (earlier : List Sight) (H H' : List Entry) (at before count : ℕ) (reply : Reply) → IsBegun base coll k moment c earlier → H' ≡ H ++ Failed k before count ∷ [] → at ≡ length H
+  pub failed_serves : (c : CommandTree) → IsSingle c → (earlier : List Sight) (H H' : List Entry) (at before count : ℕ) (reply : Reply) → IsBegun base coll k moment c earlier → H' ≡ H ++ Failed k before count ∷ [] → at ≡ length H
       → Refuses (errors.store_fault before count) reply → Serves base coll k moment c (sight H' (Faulted at before count) ∷ earlier) reply
-  failed_serves c earlier H H' at before count reply begun longer here refuses = stopped_serves c earlier (sight H' (Faulted at before count)) (errors.store_fault before count) reply begun (saw_entry H H' (Failed k before count) at longer here, refl) refuses
+  failed_serves c one earlier H H' at before count reply begun longer here refuses = stopped_serves c one earlier (sight H' (Faulted at before count)) (errors.store_fault before count) reply begun (saw_entry H H' (Failed k before count) at longer here, refl) refuses
 
   -- ---- insertOne
 
@@ -169,7 +193,7 @@ module _ (base : Base) (coll : Name) (k : ℕ) (moment : ℤ) where
       → Refuses (errors.already_exists (id_of d) tx) reply → Serves base coll k moment (insert_one d) (s ∷ earlier) reply
   taken_serves d earlier s tx reply begun taken refuses = ⊎_elim
       (λ (r : IsRefusal (errors.already_exists (id_of d) tx) reply). inl ((begun.0, begun.1, inr (tx, taken)), inr (tx, taken, r)))
-      (λ (e : reply ≡ NoMemory 0). let a = accepts (insert_one d) earlier begun in let b : one_if_wrote s.item ≡ 0 = ap one_if_wrote taken.item in let z : 0 ≡ one_if_wrote s.item + accepted earlier = omega arith in
+      (λ (e : reply ≡ NoMemory 0). let a = accepts (insert_one d) tt earlier begun in let b : one_if_wrote s.item ≡ 0 = ap one_if_wrote taken.item in let z : 0 ≡ one_if_wrote s.item + accepted earlier = omega arith in
       inr (inr (inl (begun.0, begun.1, inr (tx, taken)), e ∙ ap NoMemory z)))
       refuses
 
@@ -192,7 +216,7 @@ module _ (base : Base) (coll : Name) (k : ℕ) (moment : ℤ) where
   mark_serves d earlier H H' at (Looked a from to pairs) error reply begun same here is cause refuses =
       let past : take a H' ≡ H = saw H H' a same (is.0 ∙ here) in
       let back : replay base H ≡ replay base (take a H') = ap (replay base) (sym past) in
-      stopped_serves (insert_one d) earlier (sight H' (Looked a from to pairs)) error reply begun
+      stopped_serves (insert_one d) tt earlier (sight H' (Looked a from to pairs)) error reply begun
       ((is.1, is.2), is.3, marked_so coll k base ⊤ (sight H' (Looked a from to pairs)) error tt (subst (λ (s : Base). IsNoWrite coll s error) back cause)) refuses
   mark_serves d earlier H H' at (Wrote a) error reply begun same here is cause refuses = absurd is
   mark_serves d earlier H H' at (Lost a read f) error reply begun same here is cause refuses = absurd is
@@ -210,14 +234,14 @@ module _ (base : Base) (coll : Name) (k : ℕ) (moment : ℤ) where
       → EndsSo (Faulted at before count) (Refuses (errors.store_fault before count)) o → Leads base coll k moment H' (Inserting d) earlier o
   failed_leads d earlier H H' at before count (m.Goes i w) way longer here is = absurd is
   failed_leads d earlier H H' at before count (m.Ends i r) way longer here is =
-      subst (λ (z : Item). Serves base coll k moment (insert_one (tree d)) (sight H' z ∷ earlier) r) (sym is.0) (failed_serves (insert_one (tree d)) earlier H H' at before count r way.0 longer here is.1)
+      subst (λ (z : Item). Serves base coll k moment (insert_one (tree d)) (sight H' z ∷ earlier) r) (sym is.0) (failed_serves (insert_one (tree d)) tt earlier H H' at before count r way.0 longer here is.1)
   failed_leads d earlier H H' at before count m.NoMemory way longer here is = absurd is
 
   -- ---- listings
 
   pub count_ended : (w : Wanted) (last : Option Tree) (n : ℕ) (H' : List Entry) (earlier : List Sight) (item : Item) (r : Reply) → IsUnderWay base coll k moment (Counting w last n) earlier → StopsSo base coll k H' last item r
       → Serves base coll k moment (count_documents (filter_tree w.filter)) (sight H' item ∷ earlier) r
-  count_ended w last n H' earlier item r way stops = stopped_serves (count_documents (filter_tree w.filter)) earlier (sight H' item) stops.0 r way.0
+  count_ended w last n H' earlier item r way stops = stopped_serves (count_documents (filter_tree w.filter)) tt earlier (sight H' item) stops.0 r way.0
       (subst (λ (l : Option Tree). Stops base coll k (λ after up. (after ≡ l) × (up ≡ None)) ⊥ item (sight H' item) stops.0) way.1.0 stops.1) stops.2
 
   pub count_leads : (w : Wanted) (last : Option Tree) (n n' : ℕ) (H' : List Entry) (earlier : List Sight) (item : Item) (page : Vec Version Global) (up : Option Tree) → n' ≡ n + length page.items → IsUnderWay base coll k moment (Counting w last n) earlier

@@ -1,48 +1,35 @@
 -- How an update searches in a round, and what it makes of what it finds.
-use Rattle.std.proofs.Common.{◌≡◌, ◌≢◌, ℕ, ℤ, suc, ◌+◌, ◌-◌, ◌^◌, ◌<◌, ◌≤◌, List, [], ◌∷◌, ◌++◌, map, take, drop, reverse, length, Bool, true, false, Option, Some, None, Result, Ok, Err, refl, sym, ap, ◌∙◌, subst, arith, inl, inr, ⊎_elim, ◌⊎◌, Vec, Global, length-append, append-nil}
-use Rattle.std.specs.Prelude.{IfSome, IsSome, MatchOption, slice_get, option_and_then}
+use Rattle.std.proofs.Common.{◌≡◌, ℕ, ℤ, ◌<◌, List, [], ◌∷◌, ◌++◌, take, length, true, false, Option, Some, None, refl, sym, ap, ◌∙◌, subst, arith, inl, inr, ⊎_elim}
+use Rattle.std.specs.Prelude.{IsSome, MatchOption, slice_get}
 use Rattle.std.specs.Option.{option_map}
-use Rattle.std.specs.List.{list_any}
-use Rattle.std.proofs.lemmas.List.{reverse-append, length-take-le, length-reverse, reverse-reverse}
 use Rattle.json_tree.specs.Tree.{Tree}
-use Rattle.shred_cols.specs.Row.{Version, id_of}
-use Rattle.shred_cols.specs.Rows.{Rows, ascends, version_of, first}
-use Rattle.col_keeper.specs.Tables.{Name, AreApart, KeepsLimits, rows_in}
+use Rattle.shred_cols.specs.Row.{Version}
+use Rattle.shred_cols.specs.Rows.{Rows, first}
+use Rattle.col_keeper.specs.Tables.{Name}
 use Rattle.filter_tree.specs.Filters.{FilterTree}
 use Rattle.filter_tree.specs.View.{filter_tree}
-use Rattle.update_ops.specs.Clauses.{Clause}
 use Rattle.update_ops.specs.Apply.{apply}
 use Rattle.reply_env.specs.Messages as errors
-use Rattle.reply_env.specs.Reply.{IsRefusal}
 use Rattle.reply_env.specs.declared.reply.ErrorItem.{ErrorItem}
 use Rattle.reply_env.specs.declared.reply.Reply.{Reply}
 use Rattle.reply_env.specs.declared.reply.Reply.TheVariants as reply
 use Rattle.reply_env.specs.declared.update_errors.Loss.{Loss}
-use Rattle.store_core.specs.State.{State as Base, IsOld, IsGone, version, number_at}
-use Rattle.store_core.specs.Journal.{IsJournal, IsMadeOfRead, replay}
+use Rattle.store_core.specs.State.{State as Base}
 use Rattle.store_core.specs.declared.entry.Entry.{Entry}
-use Rattle.store_core.specs.declared.entry.Entry.TheVariants.{Changed, Failed}
-use Rattle.store_core.specs.declared.entry.Change.TheVariants.{Update}
-use Rattle.cmd_tasks.specs.Trace.{Sight, sight, point, writes, Found, now, rows_now, shown, shown_by, seen_by, Looks, IsLook, GoesOn, IsListed, FullPage, end_of, next_from}
-use Rattle.cmd_tasks.specs.Attempts.{IsWon, IsLost, IsAttempt, comes_between}
+use Rattle.cmd_tasks.specs.Trace.{Sight, sight, writes, Found, shown, Looks, IsLook, GoesOn, IsListed, next_from}
 use Rattle.view_sort.specs.Sort.{SortKeys}
-use Rattle.cmd_tasks.specs.Searches.{bound, in_order, first_of, stored}
-use Rattle.cmd_tasks.specs.Served.{IsPartOf, IsFound, Serves, Stops, Marks, IsToWrite, MakesAnother, TellsUnwritten, chosen, round, round_with, losses, lost_by, accepted, one_if_wrote, sights}
-use Rattle.cmd_tasks.specs.Session.{AreWithin}
+use Rattle.cmd_tasks.specs.Searches.{bound, in_order, first_of}
+use Rattle.cmd_tasks.specs.Served.{IsPartOf, IsFound, Serves, Stops, Marks, IsToWrite, MakesAnother, TellsUnwritten, chosen, round, round_with, losses, lost_by, accepted, one_if_wrote}
 use Rattle.cmd_tasks.specs.Pages.{found_row}
-use Rattle.cmd_tasks.specs.Placed.{IsPlaced}
-use Rattle.cmd_tasks.specs.Rank.{rank_of}
-use Rattle.cmd_tasks.specs.Wanted.{IsWanted}
-use Rattle.cmd_tasks.specs.Looking.{Made, IsLooked, Refuses}
-use Rattle.cmd_tasks.specs.Searching.{IsFresh, IsSearching, IsSeen, IsUnended, IsEnded, has_too_many, Seeks}
-use Rattle.cmd_tasks.specs.Moves.{updating, tries_rank, IsUpdating, Steps, Leads, IsUnderWay, IsKept, IsChosen, Takes, Chooses, LosesTo, Fits, EndsSo, EndsMarked, with_loss}
+use Rattle.cmd_tasks.specs.Looking.{Made, Refuses}
+use Rattle.cmd_tasks.specs.Searching.{IsSearching, IsSeen, IsUnended, IsEnded, has_too_many, Seeks}
+use Rattle.cmd_tasks.specs.Moves.{updating, IsUpdating, Steps, Leads, IsUnderWay, IsKept, Takes, Chooses}
 use Rattle.cmd_tasks.specs.declared.work.Updating.{Updating}
 use Rattle.cmd_tasks.specs.declared.work.State.{State}
-use Rattle.cmd_tasks.specs.declared.work.State.TheVariants.{Inserting, Selecting, Listing, Counting, Choosing, Changing, Done}
+use Rattle.cmd_tasks.specs.declared.work.State.TheVariants.{Choosing}
 use Rattle.cmd_tasks.specs.declared.work.Moved.{Moved}
 use Rattle.cmd_tasks.specs.declared.work.Moved.TheVariants as m
 use Rattle.cmd_tasks.specs.declared.work.Progress.{Progress}
-use Rattle.cmd_tasks.specs.declared.work.Search.{Search}
 use Rattle.cmd_tasks.specs.declared.work.Searched.{Searched}
 use Rattle.cmd_tasks.specs.declared.work.Searched.TheVariants as sr
 use Rattle.cmd_tasks.specs.declared.trace.Item.{Item}
@@ -64,7 +51,7 @@ pub choose_steps : (k low high : ℕ) (H H' : List Entry) (u : Updating) (p : Pr
 choose_steps k low high H H' u p item (v ∷ rs) o ready made c = takes_steps k low high H H' u p item v o made ready c
 choose_steps k low high H H' u p item [] o ready made c = subst (Steps k low high (Choosing u p) H H') (sym c) made
 
-same_version : (a b : Version) → Some a ≡ Some b → a ≡ b
+pub same_version : (a b : Version) → Some a ≡ Some b → a ≡ b
 same_version a b e = cc
 
 -- rows with a first one, and none
@@ -78,26 +65,26 @@ none_chosen u item (x ∷ rows) o e h = cc
 
 -- ---- a look in a round
 
-looked_round : (base : Base) (coll : Name) (f : FilterTree) (r : Rows) (from : Option Tree) (i : Item) (s : Sight) (rd : List Sight) → Looks base coll f r from i → round_with i s rd ≡ s ∷ rd
+pub looked_round : (base : Base) (coll : Name) (f : FilterTree) (r : Rows) (from : Option Tree) (i : Item) (s : Sight) (rd : List Sight) → Looks base coll f r from i → round_with i s rd ≡ s ∷ rd
 looked_round base coll f r from (Looked at after up page) s rd h = refl
 looked_round base coll f r from (Wrote at) s rd h = absurd h
 looked_round base coll f r from (Lost at read found) s rd h = absurd h
 looked_round base coll f r from (Faulted at before count) s rd h = absurd h
 
-looked_facts : (base : Base) (coll : Name) (f : FilterTree) (r : Rows) (from : Option Tree) (i : Item) → Looks base coll f r from i → (lost_by i ≡ []) × (one_if_wrote i ≡ 0) × (writes i ≡ false)
+pub looked_facts : (base : Base) (coll : Name) (f : FilterTree) (r : Rows) (from : Option Tree) (i : Item) → Looks base coll f r from i → (lost_by i ≡ []) × (one_if_wrote i ≡ 0) × (writes i ≡ false)
 looked_facts base coll f r from (Looked at after up page) h = (refl, refl, refl)
 looked_facts base coll f r from (Wrote at) h = absurd h
 looked_facts base coll f r from (Lost at read found) h = absurd h
 looked_facts base coll f r from (Faulted at before count) h = absurd h
 
 -- a listing that stops in the place of no write
-stops_more : (base : Base) (coll : Name) (k : ℕ) (P Q : Option Tree → Option Tree → Type 0) (W : Type 0) (i : Item) (s : Sight) (error : ErrorItem) → ((a t : Option Tree) → P a t → Q a t) → (W → ⊥) → Stops base coll k P ⊥ i s error → Stops base coll k Q W i s error
+pub stops_more : (base : Base) (coll : Name) (k : ℕ) (P Q : Option Tree → Option Tree → Type 0) (W : Type 0) (i : Item) (s : Sight) (error : ErrorItem) → ((a t : Option Tree) → P a t → Q a t) → (W → ⊥) → Stops base coll k P ⊥ i s error → Stops base coll k Q W i s error
 stops_more base coll k P Q W (Looked at after up page) s error f none h = (f after up h.0, h.1, ⊎_elim (λ z. absurd z.0) (λ z. inr ((λ w. absurd (none w)), z.1, z.2)) h.2)
 stops_more base coll k P Q W (Wrote at) s error f none h = h
 stops_more base coll k P Q W (Lost at read found) s error f none h = h
 stops_more base coll k P Q W (Faulted at before count) s error f none h = h
 
-not_some : {A : Type 0} (o : Option A) → o ≡ None → IsSome o → ⊥
+pub not_some : {A : Type 0} (o : Option A) → o ≡ None → IsSome o → ⊥
 not_some None e h = cc
 not_some (Some a) e h = cc
 
@@ -216,8 +203,8 @@ module _ (base : Base) (coll : Name) (k : ℕ) (moment : ℤ) (u : Updating) (on
 
   pub choose_stopped : (item : Item) (r : Reply) → Seeks base coll None u.search k H' (round earlier) (sr.Stopped item r) → Serves base coll k moment (updating u) (sight H' item ∷ earlier) r
   choose_stopped item r h = ⊎_elim
-      (λ stops. stopped_serves base coll k moment (updating u) earlier (sight H' item) stops.0 r way.0
-      (stops_more base coll k _ (Marks base coll k (updating u) earlier) (IsToWrite base coll k (updating u) earlier) item (sight H' item) stops.0
+      (λ stops. stopped_serves base coll k moment (updating u) tt earlier (sight H' item) stops.0 r way.0
+      (stops_more base coll k _ (Marks base coll k moment (updating u) earlier) (IsToWrite base coll k moment (updating u) earlier) item (sight H' item) stops.0
       (λ a t z. match_none (chosen base coll k f sort earlier) _ _ way.1.1 z) (not_some (chosen base coll k f sort earlier) way.1.1) stops.1) stops.2)
       (λ many. choose_many item many.0 r many.1 many.2 many.3)
       h

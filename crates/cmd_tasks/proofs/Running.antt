@@ -1,5 +1,5 @@
 -- One request of a session, from its first step to its last.
-use Rattle.std.proofs.Common.{◌≡◌, ◌≤◌, ◌<◌, ◌+◌, ℕ, Option, List, [], ◌∷◌, ◌++◌, length, refl, sym, ap, ◌∙◌, subst, append_assoc, ⊎_elim, arith}
+use Rattle.std.proofs.Common.{◌≡◌, ◌≤◌, ◌<◌, ℕ, Option, List, [], ◌∷◌, ◌++◌, length, refl, sym, ap, ◌∙◌, subst, append_assoc, ⊎_elim, arith}
 use Rattle.std.proofs.lemmas.List.{append-nil}
 use Rattle.std.specs.Prelude.{⊤}
 use Rattle.std.specs.Option.{ForSome}
@@ -15,12 +15,13 @@ use Rattle.cmd_grammar.specs.Commands.{command_tree}
 use Rattle.cmd_tasks.specs.Served.{IsServed}
 use Rattle.cmd_tasks.specs.Session.{Exchange, asks_for, IsSession, IsAnswered, Records, AreCounted}
 use Rattle.cmd_tasks.specs.Looking.{Risen}
+use Rattle.cmd_tasks.specs.Moves.{accepted_by}
 use Rattle.cmd_tasks.specs.Stands.{StandsOn, IsSame, Adds, IfDone, exchange, answered_by}
 use Rattle.cmd_tasks.specs.declared.task.Task.{Task}
 use Rattle.cmd_tasks.specs.declared.task.Served.{Served}
 use Rattle.cmd_tasks.specs.declared.trace.Item.{Item}
 use Rattle.cmd_tasks.specs.declared.work.State.{State}
-use Rattle.cmd_tasks.specs.declared.work.State.TheVariants.{Inserting, Selecting, Listing, Counting, Choosing, Changing, Done}
+use Rattle.cmd_tasks.specs.declared.work.State.TheVariants.{Inserting, Selecting, Listing, Counting, Choosing, Changing, Seeking, Deleting, Paging, Trying, Retrying, Done}
 use Rattle.cmd_tasks.proofs.Sessions.{session_begins, session_steps, session_ends}
 use Rattle.cmd_tasks.proofs.Standing.{stands_served}
 
@@ -91,7 +92,7 @@ module _ {K : Type 0} (failed : K → ℕ) where
     pub lawful : IsLawful s
     pub grown : IsGrown t₀.session s₀.journal (failed s₀.keeper) s.journal (failed s.keeper)
     pub faults : failed s₀.keeper ≤ failed s.keeper
-    pub session : ForSome s₀.start (λ base. (xs : List Exchange) → IsSession base s₀.journal t₀.session xs → IsSession base s.journal t₀.session (xs ++ exchange t (NoMemory 0) ∷ []))
+    pub session : ForSome s₀.start (λ base. (xs : List Exchange) → IsSession base s₀.journal t₀.session xs → IsSession base s.journal t₀.session (xs ++ exchange t (NoMemory (accepted_by t.state)) ∷ []))
 
   pub serving_begins : (s : Stored K) (t : Task) → t.session < opened_in s.journal → t.trace.items.items ≡ [] → StandsOn s.start s.journal t → IsLawful s → IsServing s s t t
   serving_begins s t known none stands lawful = record {
@@ -102,7 +103,7 @@ module _ {K : Type 0} (failed : K → ℕ) where
     lawful = lawful;
     grown = ([], sym (append-nil s.journal), tt, tt);
     faults = omega arith;
-    session = λ base told xs h. session_begins base s.journal t.session xs (exchange t (NoMemory 0)) none (stands_served s.start s.journal t stands base told) h;
+    session = λ base told xs h. session_begins base s.journal t.session xs (exchange t (NoMemory (accepted_by t.state))) none (stands_served s.start s.journal t stands base told) h;
   }
 
   module _ (s₀ s s' : Stored K) (t₀ t t' : Task) (v : IsServing s₀ s t₀ t) (same : IsSame t t') (adds : Adds t.session (failed s.keeper) (failed s'.keeper) s.journal s'.journal t.trace.items.items t'.trace.items.items) (base' : SameBase s s') (faults : failed s.keeper ≤ failed s'.keeper) (lawful : IsLawful s') where
@@ -131,7 +132,7 @@ module _ {K : Type 0} (failed : K → ℕ) where
         → ForSome s₀.start (λ base. (xs : List Exchange) → IsSession base s₀.journal t₀.session xs → IsSession base s'.journal t₀.session (xs ++ exchange t' reply ∷ []))
     session_after reply serves = λ base told xs h.
         let now = v.base.1 ∙ told in
-        adds_session base (failed s.keeper) (failed s'.keeper) s.journal s'.journal t₀.session xs (exchange t (NoMemory 0)) (exchange t' reply) by_session (lawful base (base'.1 ∙ now)).0
+        adds_session base (failed s.keeper) (failed s'.keeper) s.journal s'.journal t₀.session xs (exchange t (NoMemory (accepted_by t.state))) (exchange t' reply) by_session (lawful base (base'.1 ∙ now)).0
         (subst (λ (k : ℕ). IsServed base s'.journal t'.coll k t'.trace.moment (command_tree t'.command.value) t'.trace.items.items reply) (same.session ∙ v.same.session) (serves base now)) (v.session base told xs h)
 
     pub serving_goes_on : StandsOn s'.start s'.journal t' → IsServing s₀ s' t₀ t'
@@ -143,7 +144,7 @@ module _ {K : Type 0} (failed : K → ℕ) where
       lawful = lawful;
       grown = grown_after;
       faults = faults_after;
-      session = session_after (NoMemory 0) (λ base told. stands_served s'.start s'.journal t' stands base (base'.1 ∙ told));
+      session = session_after (NoMemory (accepted_by t'.state)) (λ base told. stands_served s'.start s'.journal t' stands base (base'.1 ∙ told));
     }
 
 pub done_more : (s : State) (P Q : Reply → Type 0) → ((r : Reply) → P r → Q r) → IfDone s P → IfDone s Q
@@ -153,6 +154,11 @@ done_more (Listing search p part) P Q f h = h
 done_more (Counting w last n) P Q f h = h
 done_more (Choosing u p) P Q f h = h
 done_more (Changing u read d) P Q f h = h
+done_more (Seeking d p) P Q f h = h
+done_more (Deleting d read id) P Q f h = h
+done_more (Paging many stand) P Q f h = h
+done_more (Trying many stand attempt) P Q f h = h
+done_more (Retrying many stand id) P Q f h = h
 done_more (Done r) P Q f h = f r h
 
 done_with : (s : State) (P : Reply → Type 0) → IfDone s P → (r : Reply) × (s ≡ Done r) × P r
@@ -162,6 +168,11 @@ done_with (Listing search p part) P h = absurd h
 done_with (Counting w last n) P h = absurd h
 done_with (Choosing u p) P h = absurd h
 done_with (Changing u read d) P h = absurd h
+done_with (Seeking d p) P h = absurd h
+done_with (Deleting d read id) P h = absurd h
+done_with (Paging many stand) P h = absurd h
+done_with (Trying many stand attempt) P h = absurd h
+done_with (Retrying many stand id) P h = absurd h
 done_with (Done r) P h = (r, refl, h)
 
 -- a task that is done hands back what its session was told

@@ -37,14 +37,14 @@ use Rattle.cmd_tasks.proofs.Keeping.{first_rows, rows_same}
 
 -- ---- lists
 
-no : false ≡ true → ⊥
+pub no : false ≡ true → ⊥
 no e = cc
 
-both_of : (a b : Bool) → a && b ≡ true → (a ≡ true) × (b ≡ true)
+pub both_of : (a b : Bool) → a && b ≡ true → (a ≡ true) × (b ≡ true)
 both_of true b h = (refl, h)
 both_of false b h = cc
 
-weaker : {A : Type 0} (P Q : A → Type 0) (xs : List A) → ((x : A) → P x → Q x) → Each P xs → Each Q xs
+pub weaker : {A : Type 0} (P Q : A → Type 0) (xs : List A) → ((x : A) → P x → Q x) → Each P xs → Each Q xs
 weaker P Q [] f h = tt
 weaker P Q (x ∷ xs) f h = (f x h.0, weaker P Q xs f h.1)
 
@@ -52,7 +52,7 @@ each_append : {A : Type 0} (P : A → Type 0) (xs ys : List A) → Each P xs →
 each_append P [] ys a b = b
 each_append P (x ∷ xs) ys a b = (a.0, each_append P xs ys a.1 b)
 
-each_of_map : {A B : Type 0} (f : A → B) (P : B → Type 0) (xs : List A) → Each P (map f xs) → Each (λ x. P (f x)) xs
+pub each_of_map : {A B : Type 0} (f : A → B) (P : B → Type 0) (xs : List A) → Each P (map f xs) → Each (λ x. P (f x)) xs
 each_of_map f P [] h = tt
 each_of_map f P (x ∷ xs) h = (h.0, each_of_map f P xs h.1)
 
@@ -96,7 +96,7 @@ apart_by : (u x y : Tree) → is_le (id_cmp x u) ≡ true → IsBelow u y → x 
 apart_by u x y a b e = no (sym (lt_not_le (id_cmp u y) (id_cmp y u) (ids_total.antisymm y u) b) ∙ subst (λ (z : Tree). is_le (id_cmp z u) ≡ true) e a)
 
 -- x comes up to l, and u comes behind some z that comes behind l
-up_to_more : (l u x z : Tree) → is_le (id_cmp x l) ≡ true → IsBelow l z → is_le (id_cmp z u) ≡ true → is_le (id_cmp x u) ≡ true
+pub up_to_more : (l u x z : Tree) → is_le (id_cmp x l) ≡ true → IsBelow l z → is_le (id_cmp z u) ≡ true → is_le (id_cmp x u) ≡ true
 up_to_more l u x z a b c =
     not_gt_le (id_cmp x u) (upto ids_total x l u (le_not_gt (id_cmp x l) a) (upto ids_total l z u (lt_not_gt (id_cmp l z) b) (le_not_gt (id_cmp z u) c)))
 
@@ -121,11 +121,11 @@ of_filter P Q q (e ∷ es) f h = elim (q e) as (λ t. q e ≡ t → Each Q (map 
   | false ↦ λ w. of_filter P Q q es f h.1
 ] refl
 
-abbrev Ascend : List Found → Type 0
+abbrev pub Ascend : List Found → Type 0
 Ascend [] = ⊤
 Ascend (x ∷ xs) = Each (λ y. IsBelow x.id y.id) xs × Ascend xs
 
-filter_ascends : (q : Row → Bool) (es : List Row) → Rises es → Ascend (map found (filter q es))
+pub filter_ascends : (q : Row → Bool) (es : List Row) → Rises es → Ascend (map found (filter q es))
 filter_ascends q [] h = tt
 filter_ascends q (e ∷ es) h = elim (q e) as (λ t. Ascend (map found (cond t (e ∷ filter q es) (filter q es)))) [
   | true ↦ (of_filter (λ z. IsBelow e.0 z.0) (λ y. IsBelow e.0 y.id) q es (λ z w b. b) h.0, filter_ascends q es h.1)
@@ -145,12 +145,12 @@ ids_append (v ∷ vs) ws a b far = ((a.0.0, each_append (λ w. id_of v.doc ≢ i
 -- ---- a look
 
 -- the document lies in the interval, and stands in the rows
-record IsInside (rs : Rows) (after up : Option Tree) (x : Found) : Type 0 where
+pub record IsInside (rs : Rows) (after up : Option Tree) (x : Found) : Type 0 where
   pub behind : is_after after x.id ≡ true
   pub within : up_to up x.id ≡ true
   pub stands : version_of x.id rs ≡ Some (stored x)
 
-inside : (rs : Rows) (f : FilterTree) (after up : Option Tree) → Rises rs → Each (IsInside rs after up) (found_in rs f after up)
+pub inside : (rs : Rows) (f : FilterTree) (after up : Option Tree) → Rises rs → Each (IsInside rs after up) (found_in rs f after up)
 inside rs f after up h = of_filter (λ e. version_of e.0 rs ≡ Some e.1) (IsInside rs after up) (λ e. is_after after e.0 && (up_to up e.0 && matches f e.1.doc)) rs
     (λ e w s. let p = both_of (is_after after e.0) (up_to up e.0 && matches f e.1.doc) w in record { behind = p.0; within = (both_of (up_to up e.0) (matches f e.1.doc) p.1).0; stands = s }) (stand rs h)
 
@@ -202,7 +202,7 @@ row_between rs f after up full =
     let p = both_of (is_after after e.0.0) (up_to up e.0.0 && meets_document (probe_of f) e.0.1.doc) e.1 in
     (e.0, p.0, (both_of (up_to up e.0.0) (meets_document (probe_of f) e.0.1.doc) p.1).0)
 
-full_between : (base : Base) (coll : Name) (f : FilterTree) (rs : Rows) (last : Option Tree) (i : Item) → Looks base coll f rs last i → FullPage base coll f rs i → (e : Row) × (is_after last e.0 ≡ true) × (up_to (end_of i) e.0 ≡ true)
+pub full_between : (base : Base) (coll : Name) (f : FilterTree) (rs : Rows) (last : Option Tree) (i : Item) → Looks base coll f rs last i → FullPage base coll f rs i → (e : Row) × (is_after last e.0 ≡ true) × (up_to (end_of i) e.0 ≡ true)
 full_between base coll f rs last (Looked at after up page) l full = let e = row_between rs f after up full.1 in (e.0, subst (λ (a : Option Tree). is_after a e.0.0 ≡ true) l.0 e.1, e.2)
 full_between base coll f rs last (Wrote at) l full = absurd l
 full_between base coll f rs last (Lost at read x) l full = absurd l

@@ -1,5 +1,5 @@
 -- How findOne and find go on, or are answered, by what a step of their search tells.
-use Rattle.std.proofs.Common.{◌≡◌, ◌⊎◌, ℕ, ℤ, zero, suc, List, [], ◌∷◌, map, take, drop, Option, Some, None, true, false, refl, sym, ap, ◌∙◌, subst, inl, inr, ⊎_elim}
+use Rattle.std.proofs.Common.{◌≡◌, ◌⊎◌, ℕ, ℤ, zero, suc, List, [], ◌∷◌, map, take, drop, Option, Some, None, refl, sym, ap, ◌∙◌, subst, inl, inr, ⊎_elim}
 use Rattle.std.specs.Option.{option_map}
 use Rattle.std.proofs.lemmas.List.{drop-take}
 use Rattle.json_tree.specs.Tree.{Tree}
@@ -112,7 +112,7 @@ module _ (base : Base) (coll : Name) (k : ℕ) (moment : ℤ) where
 
       pub select_stopped : (item : Item) (reply : Reply) → Seeks base coll None search k H' earlier (r.Stopped item reply) → Serves base coll k moment (find_one f search.sort shows) (sight H' item ∷ earlier) reply
       select_stopped item reply h = ⊎_elim
-          (λ stops. stopped_serves base coll k moment (find_one f search.sort shows) earlier (sight H' item) stops.0 reply way.0 stops.1 stops.2)
+          (λ stops. stopped_serves base coll k moment (find_one f search.sort shows) tt earlier (sight H' item) stops.0 reply way.0 stops.1 stops.2)
           (λ many.
           let part : IsPartOf base coll k moment (find_one f search.sort shows) (sight H' item ∷ earlier) = (way.0.0, way.0.1, many.0) in
           answered (find_one f search.sort shows) (sight H' item ∷ earlier) reply _ part (find_one_accepts base coll k moment f search.sort shows (sight H' item ∷ earlier) part) (λ t. (subst (λ (n : ℕ). IsEndedBy n (sight H' item ∷ earlier)) one many.1, inl (many.2, t))) many.3)
@@ -151,7 +151,7 @@ module _ (base : Base) (coll : Name) (k : ℕ) (moment : ℤ) where
 
       pub list_stopped : (item : Item) (reply : Reply) → Seeks base coll from search k H' earlier (r.Stopped item reply) → Serves base coll k moment asked_for (sight H' item ∷ earlier) reply
       list_stopped item reply h = ⊎_elim
-          (λ stops. stopped_serves base coll k moment asked_for earlier (sight H' item) stops.0 reply way.0 stops.1 stops.2)
+          (λ stops. stopped_serves base coll k moment asked_for tt earlier (sight H' item) stops.0 reply way.0 stops.1 stops.2)
           (λ many.
           let taken : IsPartOf base coll k moment asked_for (sight H' item ∷ earlier) = (way.0.0, way.0.1, many.0) in
           answered asked_for (sight H' item ∷ earlier) reply _ taken (find_accepts base coll k moment f search.sort part.projection (paging part) (sight H' item ∷ earlier) taken) (λ t. (subst (λ (n : ℕ). IsEndedBy n (sight H' item ∷ earlier)) keeps many.1, inl (many.2, t))) many.3)

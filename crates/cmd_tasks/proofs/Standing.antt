@@ -1,31 +1,44 @@
 -- A step of a task, and the entries of others between two steps, keep where it stands.
-use Rattle.std.proofs.Common.{◌≡◌, ℕ, ℤ, zero, suc, ◌+◌, ◌≤◌, List, [], ◌∷◌, ◌++◌, map, drop, reverse, length, Option, Some, None, refl, sym, ap, ◌∙◌, subst, arith, inl, inr, length-append, length-drop, Vec, Global}
+use Rattle.std.proofs.Common.{◌≡◌, ℕ, ℤ, zero, suc, ◌+◌, ◌≤◌, List, [], ◌∷◌, ◌++◌, map, drop, reverse, length, true, false, Option, Some, None, refl, sym, ap, ◌∙◌, subst, arith, length-append, length-drop, Vec, Global}
 use Rattle.std.specs.Prelude.{IfSome}
-use Rattle.std.specs.Option.{ForSome}
+use Rattle.std.specs.Option.{ForSome, option_map}
+use Rattle.json_tree.specs.Tree.{Tree}
+use Rattle.json_tree.specs.View.{tree}
+use Rattle.shred_cols.specs.Row.{Version}
 use Rattle.col_keeper.specs.Tables.{Name}
+use Rattle.filter_tree.specs.Filters.{FilterTree}
+use Rattle.filter_tree.specs.View.{filter_tree}
+use Rattle.view_sort.specs.declared.page.PageState.{PageState}
 use Rattle.store_core.specs.State.{State as Base}
 use Rattle.cmd_tasks.specs.Trace.{Sight, sight, point, IsWithin}
-use Rattle.cmd_tasks.specs.Served.{Serves, IsServed, sights}
+use Rattle.cmd_tasks.specs.Served.{IsOpen, Serves, IsServed, accepted, sights}
 use Rattle.cmd_tasks.specs.Session.{AreWithin, places, written, NoWork, Records}
 use Rattle.store_core.specs.declared.entry.Entry.{Entry}
-use Rattle.cmd_grammar.specs.Commands.{CommandTree, command_tree}
+use Rattle.cmd_grammar.specs.Commands.{CommandTree, command_tree, insert_one, find_one, find, count_documents}
 use Rattle.reply_env.specs.declared.reply.Reply.{Reply}
 use Rattle.reply_env.specs.declared.reply.Reply.TheVariants.{NoMemory}
 use Rattle.cmd_tasks.specs.declared.trace.Item.{Item}
 use Rattle.cmd_tasks.specs.declared.trace.Item.TheVariants.{Looked, Wrote, Lost, Faulted}
 use Rattle.cmd_tasks.proofs.Extension.{sights_more, within_longer, places_more}
-use Rattle.cmd_tasks.proofs.Requests.{cut_off}
+use Rattle.cmd_tasks.proofs.Requests.{accepts, cut_off}
+use Rattle.cmd_tasks.proofs.Accepted.{many_accepts}
 use Rattle.cmd_tasks.proofs.Fresh.{fresh_searching, none_first, match_none}
 use Rattle.cmd_tasks.proofs.Sessions.{sights_snoc, ordered_snoc, within_snoc, written_snoc, places-append}
 use Rattle.cmd_tasks.specs.Searches.{first_of}
 use Rattle.cmd_tasks.specs.Part.{from_of}
+use Rattle.cmd_tasks.specs.Pages.{found_row}
 use Rattle.cmd_tasks.specs.Looking.{Made}
-use Rattle.cmd_tasks.specs.Moves.{paging, Promises, asked, IsReady, Begins, Steps, IsBegun, IsUnderWay}
+use Rattle.cmd_tasks.specs.Taking.{at_start}
+use Rattle.cmd_tasks.specs.Many.{taking_for, IsStart, IsWaiting, IsStanding}
+use Rattle.cmd_tasks.specs.Moves.{paging, Promises, asked, IsReady, Begins, Steps, IsBegun, IsUnderWay, accepted_by}
 use Rattle.cmd_tasks.specs.Placed.{OwnFrom, IsPlaced}
 use Rattle.cmd_tasks.specs.Stands.{StandsOn, IfDone}
 use Rattle.cmd_tasks.specs.declared.task.Task.{Task}
+use Rattle.cmd_tasks.specs.declared.work.Doing.{Doing}
+use Rattle.cmd_tasks.specs.declared.work.Doing.TheVariants.{Updates, Deletes}
+use Rattle.cmd_tasks.specs.declared.work.Stand.{Stand}
 use Rattle.cmd_tasks.specs.declared.work.State.{State}
-use Rattle.cmd_tasks.specs.declared.work.State.TheVariants.{Inserting, Selecting, Listing, Counting, Choosing, Changing, Done}
+use Rattle.cmd_tasks.specs.declared.work.State.TheVariants.{Inserting, Selecting, Listing, Counting, Choosing, Changing, Seeking, Deleting, Paging, Trying, Retrying, Done}
 use Rattle.cmd_tasks.specs.declared.work.Moved.TheVariants as m
 
 pub point_within : (n : ℕ) (i : Item) → IsWithin n i → point i ≤ n
@@ -98,6 +111,11 @@ begins_asked moment c (Listing search p part) h = h.0
 begins_asked moment c (Counting w last n) h = h.0
 begins_asked moment c (Choosing u p) h = h.0
 begins_asked moment c (Changing u read d) h = absurd h
+begins_asked moment c (Seeking d p) h = h.0
+begins_asked moment c (Deleting d read id) h = absurd h
+begins_asked moment c (Paging many stand) h = h.0
+begins_asked moment c (Trying many stand attempt) h = absurd h
+begins_asked moment c (Retrying many stand id) h = absurd h
 begins_asked moment c (Done reply) h = absurd h
 
 begins_ready : (moment : ℤ) (c : CommandTree) (w : State) → Begins moment c w → IsReady w
@@ -107,7 +125,34 @@ begins_ready moment c (Listing search p part) h = h.1
 begins_ready moment c (Counting w last n) h = h.1
 begins_ready moment c (Choosing u p) h = h.1
 begins_ready moment c (Changing u read d) h = absurd h
+begins_ready moment c (Seeking d p) h = h.1
+begins_ready moment c (Deleting d read id) h = absurd h
+begins_ready moment c (Paging many stand) h = h.1
+begins_ready moment c (Trying many stand attempt) h = absurd h
+begins_ready moment c (Retrying many stand id) h = absurd h
 begins_ready moment c (Done reply) h = absurd h
+
+-- many documents of which nothing was looked at
+many_open : (base : Base) (coll : Name) (k : ℕ) (moment : ℤ) (f : FilterTree) (page : Option PageState) (doing : Doing) → IsOpen base coll k moment (taking_for f page doing) []
+many_open base coll k moment f page (Updates u at) = tt
+many_open base coll k moment f page Deletes = tt
+
+nothing_waits : (base : Base) (coll : Name) (from : Option Tree) → IsWaiting base coll (at_start from) []
+nothing_waits base coll from = record { stood = tt; ascends = tt; passed = tt; written = λ id e. absurd (no e) }
+  where
+    no : false ≡ true → ⊥
+    no e = cc
+
+stands_at_start : (stand : Stand) (from : Option Tree) → IsStart from stand → IsStanding stand (at_start from) []
+stands_at_start stand from h = record {
+  from = h.from_is;
+  is_whole = h.unlisted;
+  queue = ap (λ (l : List Version). map found_row (reverse l)) h.queue;
+  lost = ap reverse h.lost;
+  matched = h.matched;
+  modified = h.modified;
+  last = h.last;
+}
 
 begins_way : (base : Base) (coll : Name) (k : ℕ) (moment : ℤ) (c : CommandTree) (w : State) → Begins moment c w → IsUnderWay base coll k moment w []
 begins_way base coll k moment c (Inserting d) h = ((tt, refl), tt)
@@ -120,7 +165,37 @@ begins_way base coll k moment c (Choosing u p) h =
       (fresh_searching base coll None u.search p h.2, none, record { moment_is = h.4; lost_are = ap reverse h.3 }),
     )
 begins_way base coll k moment c (Changing u read d) h = absurd h
+begins_way base coll k moment c (Seeking d p) h =
+    let none = none_first d.search.sort in (
+      (tt, (refl, (let n = ap length h.3 in omega arith), match_none (first_of d.search.sort [] []) _ _ none tt)),
+      (fresh_searching base coll None d.search p h.2, none, ap reverse h.3),
+    )
+begins_way base coll k moment c (Deleting d read id) h = absurd h
+begins_way base coll k moment c (Paging many stand) h = (
+  (tt, many_open base coll k moment (filter_tree many.wanted.filter) many.page.value many.doing),
+  (nothing_waits base coll (option_map (λ p. p.last) many.page.value), refl, refl, stands_at_start stand (option_map (λ p. p.last) many.page.value) h.2, h.3),
+)
+begins_way base coll k moment c (Trying many stand attempt) h = absurd h
+begins_way base coll k moment c (Retrying many stand id) h = absurd h
 begins_way base coll k moment c (Done reply) h = absurd h
+
+-- as many writes were accepted as the state tells
+pub way_accepts : (base : Base) (coll : Name) (k : ℕ) (moment : ℤ) (w : State) (sights : List Sight) → IsReady w → IsUnderWay base coll k moment w sights → accepted sights ≡ accepted_by w
+way_accepts base coll k moment (Inserting d) sights ready way = accepts base coll k moment (insert_one (tree d)) tt sights way.0
+way_accepts base coll k moment (Selecting search p shows) sights ready way = accepts base coll k moment (find_one (filter_tree search.wanted.filter) search.sort shows) tt sights way.0
+way_accepts base coll k moment (Listing search p part) sights ready way = accepts base coll k moment (find (filter_tree search.wanted.filter) search.sort part.projection (paging part)) tt sights way.0
+way_accepts base coll k moment (Counting w last n) sights ready way = accepts base coll k moment (count_documents (filter_tree w.filter)) tt sights way.0
+way_accepts base coll k moment (Choosing u p) sights ready way = way.0.1.0
+way_accepts base coll k moment (Changing u read d) sights ready way = way.0.1.0
+way_accepts base coll k moment (Seeking d p) sights ready way = way.0.1.0
+way_accepts base coll k moment (Deleting d read id) sights ready way = way.0.1.0
+way_accepts base coll k moment (Paging many stand) sights ready way =
+    many_accepts base coll k moment (filter_tree many.wanted.filter) many.doing many.page.value way.1.4 ready.0.may sights way.0.0 ∙ sym way.1.3.modified
+way_accepts base coll k moment (Trying many stand attempt) sights ready way =
+    many_accepts base coll k moment (filter_tree many.wanted.filter) many.doing many.page.value way.1.2 ready.0.may sights way.0.0 ∙ sym way.1.1.stands.modified
+way_accepts base coll k moment (Retrying many stand id) sights ready way =
+    many_accepts base coll k moment (filter_tree many.wanted.filter) many.doing many.page.value way.1.2 ready.0.may sights way.0.0 ∙ sym way.1.1.stands.modified
+way_accepts base coll k moment (Done reply) sights ready way = absurd ready
 
 -- entries of others
 pub stands_longer : (start : Option Base) (H more : List Entry) (task : Task) → NoWork task.session more → StandsOn start H task → StandsOn start (H ++ more) task
@@ -161,13 +236,16 @@ served_so start low high H H' task w item reply trace h w_is longer steps leads 
     (leads base told task.trace.moment task.trace.items.items h.placed (subst (λ (z : State). IsUnderWay base task.coll task.session task.trace.moment z (sights H task.trace.items.items)) (sym w_is) (h.under_way base told))))
 
 -- want of memory
-pub cut_so : (start : Option Base) (H H' : List Entry) (task : Task) (trace : List Item) → StandsOn start H task → H' ≡ H → trace ≡ task.trace.items.items
-    → ForSome start (λ base. IsServed base H' task.coll task.session task.trace.moment (command_tree task.command.value) trace (NoMemory 0))
-cut_so start H H' task trace h same same_trace = λ base told.
-    subst (λ (z : List Entry × List Item). IsServed base z.0 task.coll task.session task.trace.moment (command_tree task.command.value) z.1 (NoMemory 0)) (λ j. (sym same j, sym same_trace j))
-    (cut_off base task.coll task.session task.trace.moment (command_tree task.command.value) (sights H task.trace.items.items)
-    (asked_so (asked task.state) (command_tree task.command.value) (λ c. IsBegun base task.coll task.session task.trace.moment c (sights H task.trace.items.items)) h.asks (h.under_way base told).0))
+pub cut_so : (start : Option Base) (H H' : List Entry) (task : Task) (trace : List Item) (accepted : ℕ) → StandsOn start H task → H' ≡ H → trace ≡ task.trace.items.items → accepted ≡ accepted_by task.state
+    → ForSome start (λ base. IsServed base H' task.coll task.session task.trace.moment (command_tree task.command.value) trace (NoMemory accepted))
+cut_so start H H' task trace n h same same_trace accepted_is = λ base told.
+    let way = h.under_way base told in
+    let seen = sights H task.trace.items.items in
+    let c = command_tree task.command.value in
+    subst (λ (z : List Entry × List Item). IsServed base z.0 task.coll task.session task.trace.moment c z.1 (NoMemory n)) (λ j. (sym same j, sym same_trace j))
+    (subst (λ (m : ℕ). Serves base task.coll task.session task.trace.moment c seen (NoMemory m)) (way_accepts base task.coll task.session task.trace.moment task.state seen h.ready way ∙ sym accepted_is)
+    (cut_off base task.coll task.session task.trace.moment c seen (asked_so (asked task.state) c (λ c. IsBegun base task.coll task.session task.trace.moment c seen) h.asks way.0)))
 
 -- the trace of a task that stands, with the reply for want of memory, was served
-pub stands_served : (start : Option Base) (H : List Entry) (task : Task) → StandsOn start H task → ForSome start (λ base. IsServed base H task.coll task.session task.trace.moment (command_tree task.command.value) task.trace.items.items (NoMemory 0))
-stands_served start H task h = cut_so start H H task task.trace.items.items h refl refl
+pub stands_served : (start : Option Base) (H : List Entry) (task : Task) → StandsOn start H task → ForSome start (λ base. IsServed base H task.coll task.session task.trace.moment (command_tree task.command.value) task.trace.items.items (NoMemory (accepted_by task.state)))
+stands_served start H task h = cut_so start H H task task.trace.items.items (accepted_by task.state) h refl refl refl

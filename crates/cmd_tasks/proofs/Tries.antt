@@ -1,16 +1,14 @@
 -- Attempts on the document that a round has chosen, and what follows a lost one.
-use Rattle.std.proofs.Common.{◌≡◌, ◌≢◌, ℕ, ℤ, suc, ◌+◌, ◌-◌, ◌^◌, ◌<◌, ◌≤◌, List, [], ◌∷◌, ◌++◌, map, take, drop, reverse, length, Bool, true, false, Option, Some, None, Result, Ok, Err, refl, sym, ap, ◌∙◌, subst, arith, inl, inr, ⊎_elim, ◌⊎◌, Vec, Global, length-append, append-nil}
-use Rattle.std.specs.Prelude.{IfSome, IsSome, MatchOption, slice_get, option_and_then}
+use Rattle.std.proofs.Common.{◌≡◌, ◌≢◌, ℕ, ℤ, suc, ◌+◌, ◌-◌, ◌<◌, ◌≤◌, List, [], ◌∷◌, ◌++◌, take, drop, reverse, length, false, Option, Some, None, Ok, refl, sym, ap, ◌∙◌, subst, arith, inl, inr, ⊎_elim, ◌⊎◌, length-append}
 use Rattle.std.specs.Option.{option_map}
 use Rattle.std.specs.List.{list_any}
-use Rattle.std.proofs.lemmas.List.{reverse-append, length-take-le, length-reverse, reverse-reverse}
+use Rattle.std.proofs.lemmas.List.{reverse-append, length-reverse, reverse-reverse}
 use Rattle.json_tree.specs.Tree.{Tree}
 use Rattle.shred_cols.specs.Row.{Version, id_of}
-use Rattle.shred_cols.specs.Rows.{Rows, ascends, version_of, first}
-use Rattle.col_keeper.specs.Tables.{Name, AreApart, KeepsLimits, rows_in}
+use Rattle.shred_cols.specs.Rows.{first}
+use Rattle.col_keeper.specs.Tables.{Name, AreApart}
 use Rattle.filter_tree.specs.Filters.{FilterTree}
 use Rattle.filter_tree.specs.View.{filter_tree}
-use Rattle.update_ops.specs.Clauses.{Clause}
 use Rattle.update_ops.specs.Apply.{apply}
 use Rattle.reply_env.specs.Messages as errors
 use Rattle.reply_env.specs.Reply.{IsRefusal}
@@ -18,33 +16,25 @@ use Rattle.reply_env.specs.declared.reply.ErrorItem.{ErrorItem}
 use Rattle.reply_env.specs.declared.reply.Reply.{Reply}
 use Rattle.reply_env.specs.declared.reply.Reply.TheVariants as reply
 use Rattle.reply_env.specs.declared.update_errors.Loss.{Loss}
-use Rattle.store_core.specs.State.{State as Base, IsOld, IsGone, version, number_at}
+use Rattle.store_core.specs.State.{State as Base, IsOld, version, number_at}
 use Rattle.store_core.specs.Journal.{IsJournal, IsMadeOfRead, replay}
 use Rattle.store_core.specs.declared.entry.Entry.{Entry}
 use Rattle.store_core.specs.declared.entry.Entry.TheVariants.{Changed, Failed}
 use Rattle.store_core.specs.declared.entry.Change.TheVariants.{Update}
-use Rattle.cmd_tasks.specs.Trace.{Sight, sight, point, writes, Found, now, rows_now, shown, shown_by, seen_by, Looks, IsLook, GoesOn, IsListed, FullPage, end_of, next_from}
-use Rattle.cmd_tasks.specs.Attempts.{IsWon, IsLost, IsAttempt, comes_between}
+use Rattle.cmd_tasks.specs.Trace.{Sight, sight, writes}
+use Rattle.cmd_tasks.specs.Attempts.{IsWon, IsLost, comes_between}
 use Rattle.view_sort.specs.Sort.{SortKeys}
-use Rattle.cmd_tasks.specs.Searches.{bound, in_order, first_of, stored}
-use Rattle.cmd_tasks.specs.Served.{IsPartOf, IsFound, Serves, Stops, Marks, IsToWrite, MakesAnother, TellsUnwritten, chosen, round, round_with, losses, lost_by, accepted, one_if_wrote, sights}
-use Rattle.cmd_tasks.specs.Session.{AreWithin}
-use Rattle.cmd_tasks.specs.Pages.{found_row}
+use Rattle.cmd_tasks.specs.Served.{IsPartOf, Serves, Stops, Marks, IsToWrite, chosen, losses, accepted, sights}
 use Rattle.cmd_tasks.specs.Placed.{IsPlaced}
 use Rattle.cmd_tasks.specs.Rank.{rank_of}
-use Rattle.cmd_tasks.specs.Wanted.{IsWanted}
 use Rattle.cmd_tasks.specs.Looking.{Made, IsLooked, Refuses}
-use Rattle.cmd_tasks.specs.Searching.{IsFresh, IsSearching, IsSeen, IsUnended, IsEnded, has_too_many, Seeks}
-use Rattle.cmd_tasks.specs.Moves.{updating, tries_rank, IsUpdating, Steps, Leads, IsUnderWay, IsKept, IsChosen, Takes, Chooses, LosesTo, Fits, EndsSo, EndsMarked, with_loss}
+use Rattle.cmd_tasks.specs.Moves.{updating, tries_rank, IsUpdating, Steps, Leads, IsUnderWay, IsChosen, LosesTo, Fits, EndsSo, EndsMarked, with_loss}
+use Rattle.cmd_tasks.specs.Many.{doing_of}
 use Rattle.cmd_tasks.specs.declared.work.Updating.{Updating}
 use Rattle.cmd_tasks.specs.declared.work.State.{State}
-use Rattle.cmd_tasks.specs.declared.work.State.TheVariants.{Inserting, Selecting, Listing, Counting, Choosing, Changing, Done}
+use Rattle.cmd_tasks.specs.declared.work.State.TheVariants.{Inserting, Selecting, Listing, Counting, Choosing, Changing, Seeking, Deleting, Paging, Trying, Retrying, Done}
 use Rattle.cmd_tasks.specs.declared.work.Moved.{Moved}
 use Rattle.cmd_tasks.specs.declared.work.Moved.TheVariants as m
-use Rattle.cmd_tasks.specs.declared.work.Progress.{Progress}
-use Rattle.cmd_tasks.specs.declared.work.Search.{Search}
-use Rattle.cmd_tasks.specs.declared.work.Searched.{Searched}
-use Rattle.cmd_tasks.specs.declared.work.Searched.TheVariants as sr
 use Rattle.cmd_tasks.specs.declared.trace.Item.{Item}
 use Rattle.cmd_tasks.specs.declared.trace.Item.TheVariants.{Looked, Wrote, Lost, Faulted}
 use Rattle.cmd_tasks.proofs.Glances.{saw, saw_before, saw_entry, lost_here}
@@ -52,10 +42,11 @@ use Rattle.cmd_tasks.proofs.Requests.{IsNoWrite, marked_so, stopped_serves, fail
 use Rattle.cmd_tasks.proofs.Fresh.{match_some, match_none, some_is, fresh_searching, none_first}
 use Rattle.cmd_tasks.proofs.Attempts.{same_some, GivenOnce, Touched}
 use Rattle.cmd_tasks.proofs.Lookback.{still_same, came_between}
+use Rattle.cmd_tasks.proofs.Fitting.{fits_attempt}
 
 -- ---- what a step is, told or not
 
-falls : (n m : ℕ) (last : Option Tree) → last ≡ None → m ≡ n + 1 → m < 4 → tries_rank (4 - m) + (rank_of last + 1) < tries_rank (4 - n)
+pub falls : (n m : ℕ) (last : Option Tree) → last ≡ None → m ≡ n + 1 → m < 4 → tries_rank (4 - m) + (rank_of last + 1) < tries_rank (4 - n)
 falls n m last first e l = let s : 4 - n ≡ suc (4 - m) = omega arith in let r : tries_rank (4 - n) ≡ tries_rank (4 - m) + (rank_of None + 2) = ap tries_rank s in let a = ap rank_of first in omega arith
 
 pub loses_steps : (k low high : ℕ) (H H' : List Entry) (u : Updating) (read : ℕ) (d : Tree) (at : ℕ) (found : Option ℕ) (o : Moved) → IsUpdating u → H' ≡ H → at ≡ length H → LosesTo at read found u o → Steps k low high (Changing u read d) H H' o
@@ -70,7 +61,7 @@ pub some_number : (o : Option Version) (tx : ℕ) → option_map (λ (v : Versio
 some_number None tx e = cc
 some_number (Some v) tx e = (v, refl, same_some v.tx tx e)
 
-mark_stops : (base : Base) (coll : Name) (k : ℕ) (P : Option Tree → Option Tree → Type 0) (W : Type 0) (H H' : List Entry) (at : ℕ) (after up : Option Tree) (i : Item) (error : ErrorItem) → H' ≡ H → at ≡ length H → IsLooked i at after up [] → P after up → W
+pub mark_stops : (base : Base) (coll : Name) (k : ℕ) (P : Option Tree → Option Tree → Type 0) (W : Type 0) (H H' : List Entry) (at : ℕ) (after up : Option Tree) (i : Item) (error : ErrorItem) → H' ≡ H → at ≡ length H → IsLooked i at after up [] → P after up → W
     → IsNoWrite coll (replay base H) error → Stops base coll k P W i (sight H' i) error
 mark_stops base coll k P W H H' at after up (Looked a from to pairs) error same here is marks writes cause =
     let past : take a H' ≡ H = saw H H' a same (is.0 ∙ here) in
@@ -174,8 +165,8 @@ module _ (base : Base) (coll : Name) (k : ℕ) (moment : ℤ) (u : Updating) whe
         → IsNoWrite coll (replay base H) error
         → EndsMarked at (Some after) (Some up) (Refuses error) o → Leads base coll k moment H' (Changing u read d) earlier o
     change_marked H' at after up error (m.Goes i w) after_is up_is same here cause is = absurd is
-    change_marked H' at after up error (m.Ends i r) after_is up_is same here cause is = stopped_serves base coll k moment (updating u) earlier (sight H' i) error r way.0
-        (mark_stops base coll k (Marks base coll k (updating u) earlier) (IsToWrite base coll k (updating u) earlier) H H' at (Some after) (Some up) i error same here is.0
+    change_marked H' at after up error (m.Ends i r) after_is up_is same here cause is = stopped_serves base coll k moment (updating u) tt earlier (sight H' i) error r way.0
+        (mark_stops base coll k (Marks base coll k moment (updating u) earlier) (IsToWrite base coll k moment (updating u) earlier) H H' at (Some after) (Some up) i error same here is.0
         (match_some (chosen base coll k f sort earlier) kept.x _ _ kept.is (ap (λ (t : Tree). Some t) (after_is ∙ sym kept.same_id), ap (λ (t : Tree). Some t) (up_is ∙ sym kept.same_id)))
         (some_is (chosen base coll k f sort earlier) kept.x kept.is) cause) is.1
     change_marked H' at after up error m.NoMemory after_is up_is same here cause is = absurd is
@@ -184,7 +175,7 @@ module _ (base : Base) (coll : Name) (k : ℕ) (moment : ℤ) (u : Updating) whe
         → EndsSo (Faulted at before count) (Refuses (errors.store_fault before count)) o → Leads base coll k moment H' (Changing u read d) earlier o
     change_failed H' at before count (m.Goes i w) longer here is = absurd is
     change_failed H' at before count (m.Ends i r) longer here is =
-        subst (λ (z : Item). Serves base coll k moment (updating u) (sight H' z ∷ earlier) r) (sym is.0) (failed_serves base coll k moment (updating u) earlier H H' at before count r way.0 longer here is.1)
+        subst (λ (z : Item). Serves base coll k moment (updating u) (sight H' z ∷ earlier) r) (sym is.0) (failed_serves base coll k moment (updating u) tt earlier H H' at before count r way.0 longer here is.1)
     change_failed H' at before count m.NoMemory longer here is = absurd is
 
 -- what a state asks of the store, by where it stands
@@ -195,4 +186,9 @@ fits_so once base coll k moment (Listing search p part) H trace placed lawful ap
 fits_so once base coll k moment (Counting w last n) H trace placed lawful apart old way = tt
 fits_so once base coll k moment (Choosing u p) H trace placed lawful apart old way = tt
 fits_so once base coll k moment (Changing u read d) H trace placed lawful apart old way = fits_now base coll k moment u read d H trace placed lawful apart way once old (version (replay base H) coll (id_of d)) refl
+fits_so once base coll k moment (Seeking d p) H trace placed lawful apart old way = tt
+fits_so once base coll k moment (Deleting d read id) H trace placed lawful apart old way = tt
+fits_so once base coll k moment (Paging many stand) H trace placed lawful apart old way = tt
+fits_so once base coll k moment (Trying many stand attempt) H trace placed lawful apart old way = fits_attempt base coll (doing_of many.doing) stand attempt _ H trace way.1.0 way.1.1 once lawful apart old (version (replay base H) coll attempt.id) refl
+fits_so once base coll k moment (Retrying many stand id) H trace placed lawful apart old way = tt
 fits_so once base coll k moment (Done r) H trace placed lawful apart old way = tt

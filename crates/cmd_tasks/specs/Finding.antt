@@ -7,7 +7,7 @@ use Rattle.shred_cols.specs.Row.{Version}
 use Rattle.view_sort.specs.Sort.{SortKeys, HasIds, sorted}
 use Rattle.reply_env.specs.Messages as errors
 use Rattle.cmd_tasks.specs.Searches.{bound}
-use Rattle.cmd_tasks.specs.Looking.{Refuses}
+use Rattle.cmd_tasks.specs.Looking.{AreShort, Refuses}
 use Rattle.cmd_tasks.specs.declared.trace.Item.{Item}
 use Rattle.cmd_tasks.specs.declared.work.Search.{Search}
 use Rattle.cmd_tasks.specs.declared.work.Progress.{Progress}
@@ -26,6 +26,13 @@ are_too_many (key ∷ keys) n = nat_lt 10000 n
 
 abbrev pub AreDocuments : List Version → Type 0
 AreDocuments = AllByRecursion (λ v. IsDocument v.doc)
+
+-- the rows that a search keeps have such ids
+abbrev pub KeepsShort : Searched → Type 0
+KeepsShort (r.More i p) = AreShort p.kept.items
+KeepsShort (r.Whole i p) = AreShort p.kept.items
+KeepsShort (r.Stopped i reply) = ⊤
+KeepsShort r.NoMemory = ⊤
 
 -- whatever was found, if the first `keep` of it were kept, then these are the first `keep` of it with the page's rows
 abbrev pub KeepsFirst : SortKeys → ℕ → List Version → List Version → List Version → Type 0

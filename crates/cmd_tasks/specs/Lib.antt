@@ -2,6 +2,9 @@ pub mod Trace
 pub mod Attempts
 pub mod Searches
 pub mod Part
+pub mod Doing
+pub mod Taking
+pub mod Turns
 pub mod Served
 pub mod Session
 pub mod Placed
@@ -11,6 +14,11 @@ pub mod Wanted
 pub mod Looking
 pub mod Finding
 pub mod Searching
+pub mod Deleting
+pub mod Many
 pub mod Moves
+pub mod Going
+pub mod ManySteps
 pub mod Stands
 pub mod Joined
+pub mod Tally

@@ -1,11 +1,11 @@
 -- One look of a listing, told or not: what a page of the store is to a request.
-use Rattle.std.specs.Prelude.{◌≡◌, ◌⊎◌, ℕ, ◌<◌, List, [], ◌++◌, length, map, Bool, true, Option, Some, None, ⊤, IfSome}
-use Rattle.std.specs.List.{filter}
+use Rattle.std.specs.Prelude.{◌≡◌, ◌⊎◌, ℕ, ◌<◌, ◌≤◌, List, [], ◌++◌, length, map, Bool, true, Option, Some, None, ⊤, IfSome}
+use Rattle.std.specs.List.{filter, AllByRecursion}
 use Rattle.outside_io.specs.Causes.{Rose}
 use Rattle.json_tree.specs.Tree.{Tree}
-use Rattle.shred_cols.specs.Row.{Version}
+use Rattle.shred_cols.specs.Row.{Version, id_of}
 use Rattle.shred_cols.specs.Rows.{ascends}
-use Rattle.col_keeper.specs.Tables.{Name}
+use Rattle.col_keeper.specs.Tables.{Name, IsShort}
 use Rattle.filter_tree.specs.Filters.{FilterTree}
 use Rattle.filter_tree.specs.Matches.{matches}
 use Rattle.reply_env.specs.Reply.{IsRefusal}
@@ -64,6 +64,21 @@ abbrev pub Glances : ℕ → ℕ → ℕ → Option Tree → List Entry → List
 Glances k low high last H H' (g.Shown item page up) = Made k low high H H' item × GoesUp last up × (H' ≡ H)
 Glances k low high last H H' (g.Ended item reply) = Made k low high H H' item
 Glances k low high last H H' g.NoMemory = H' ≡ H
+
+-- the ids of rows have no more key bytes than a keeper takes
+abbrev pub AreShort : List Version → Type 0
+AreShort = AllByRecursion (λ v. IsShort (id_of v.doc))
+
+abbrev pub ShowsShort : Glance → Type 0
+ShowsShort (g.Shown item page up) = AreShort page.items
+ShowsShort (g.Ended item reply) = ⊤
+ShowsShort g.NoMemory = ⊤
+
+-- a page shows no more rows than a page of the store has
+abbrev pub ShowsFew : Glance → Type 0
+ShowsFew (g.Shown item page up) = length page.items ≤ 64
+ShowsFew (g.Ended item reply) = ⊤
+ShowsFew g.NoMemory = ⊤
 
 -- the reply refuses by this error, or memory was wanting
 abbrev pub Refuses : ErrorItem → Reply → Type 0

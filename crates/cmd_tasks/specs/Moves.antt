@@ -1,22 +1,14 @@
 -- What a step of the work is, told or not; and how it goes on with a request that is under way.
-use Rattle.std.specs.Prelude.{◌≡◌, ◌⊎◌, ℕ, ℤ, zero, suc, ◌+◌, ◌-◌, ◌<◌, ◌≤◌, List, [], ◌∷◌, ◌++◌, length, map, reverse, Bool, true, false, Option, Some, None, ⊤, IfSome, nat_le, if◌then◌else◌}
+use Rattle.std.specs.Prelude.{◌≡◌, ◌⊎◌, ℕ, ℤ, zero, suc, ◌+◌, ◌-◌, ◌<◌, ◌≤◌, List, [], ◌∷◌, ◌++◌, length, map, reverse, false, Option, Some, None, ⊤, IfSome, nat_le, if◌then◌else◌}
 use Rattle.std.proofs.Common.{Vec, Global}
 use Rattle.std.specs.Option.{ForSome, option_map}
-use Rattle.std.specs.List.{filter}
-use Rattle.outside_io.specs.Causes.{Rose}
 use Rattle.json_tree.specs.Tree.{Tree}
 use Rattle.json_tree.specs.View.{tree}
 use Rattle.shred_cols.specs.Row.{Version, id_of}
-use Rattle.shred_cols.specs.Rows.{ascends}
-use Rattle.col_keeper.specs.Tables.{Name, KeepsLimits}
-use Rattle.filter_tree.specs.Filters.{FilterTree}
-use Rattle.filter_tree.specs.Matches.{matches}
+use Rattle.col_keeper.specs.Tables.{Name, KeepsLimits, IsShort}
 use Rattle.filter_tree.specs.View.{filter_tree}
-use Rattle.update_ops.specs.Clauses.{Clause}
 use Rattle.update_ops.specs.Apply.{apply}
 use Rattle.reply_env.specs.Messages as errors
-use Rattle.reply_env.specs.Reply.{IsRefusal}
-use Rattle.reply_env.specs.declared.reply.ErrorItem.{ErrorItem}
 use Rattle.reply_env.specs.declared.reply.Reply.{Reply}
 use Rattle.reply_env.specs.declared.reply.Reply.TheVariants.{Updated, NoMemory}
 use Rattle.reply_env.specs.declared.update_errors.Loss.{Loss}
@@ -26,33 +18,35 @@ use Rattle.store_core.specs.State.{State as Base, version}
 use Rattle.store_core.specs.Journal.{IsMadeOfRead}
 use Rattle.store_core.specs.declared.entry.Change.TheVariants.{Update}
 use Rattle.store_core.specs.declared.entry.Entry.{Entry}
-use Rattle.cmd_grammar.specs.Commands.{CommandTree, Paging, insert_one, find_one, find, count_documents, update_one, IsStorable, IsAskablePaging}
+use Rattle.cmd_grammar.specs.Commands.{CommandTree, Paging as PageOf, insert_one, find_one, find, count_documents, update_one, IsStorable, IsAskablePaging}
 use Rattle.cmd_tasks.specs.Rank.{rank_of}
-use Rattle.cmd_tasks.specs.Trace.{Sight, sight, Found, now, writes, rows_now, shown, shown_by, end_of, next_from, IsLook, FullPage}
-use Rattle.cmd_tasks.specs.Attempts.{IsOneOf}
-use Rattle.cmd_tasks.specs.Served.{IsPartOf, IsOpen, Serves, Stops, TellsFound, TellsListed, TellsUnwritten, MakesAnother, counted, sights, chosen, round, losses}
-use Rattle.store_core.specs.Counts.{AllBy}
-use Rattle.cmd_tasks.specs.Session.{Records, AreCounted}
+use Rattle.cmd_tasks.specs.Trace.{Sight, sight, Found, shown, next_from}
+use Rattle.cmd_tasks.specs.Served.{IsPartOf, IsOpen, Serves, TellsFound, TellsListed, TellsUnwritten, MakesAnother, counted, sights, chosen, round, losses}
 use Rattle.cmd_tasks.specs.Placed.{IsPlaced}
-use Rattle.cmd_tasks.specs.Pages.{found_row, pair_of, up_of}
+use Rattle.cmd_tasks.specs.Pages.{found_row}
 use Rattle.cmd_tasks.specs.Wanted.{IsWanted}
 use Rattle.cmd_tasks.specs.Part.{from_of, given_of, keep_of, state_after}
-use Rattle.cmd_tasks.specs.Looking.{Made, IsLooked, Refuses}
+use Rattle.cmd_tasks.specs.Looking.{Made, IsLooked, AreShort, Refuses}
 use Rattle.cmd_tasks.specs.Searching.{IsSearchable, IsFresh, IsSearching, IsSeen}
+use Rattle.cmd_tasks.specs.Deleting.{deleting, IsDeletion, IsPicked}
+use Rattle.cmd_tasks.specs.Taking.{Standing, standing}
+use Rattle.cmd_tasks.specs.Many.{doing_of, taking, IsMany, IsStart, IsStand, IsReadyTo, stand_left, tries_left, IsWaiting, IsStanding, IsAttempted, IsRetried}
+use Rattle.cmd_tasks.specs.declared.work.Many as declared_many
+use Rattle.cmd_tasks.specs.declared.work.Doing.{Doing}
+use Rattle.cmd_tasks.specs.declared.work.Doing.TheVariants.{Updates, Deletes}
 use Rattle.cmd_tasks.specs.declared.work.Wanted.{Wanted}
-use Rattle.cmd_tasks.specs.declared.work.Search.{Search}
 use Rattle.cmd_tasks.specs.declared.work.Progress.{Progress}
 use Rattle.cmd_tasks.specs.declared.work.Part.{Part}
 use Rattle.cmd_tasks.specs.declared.work.Updating.{Updating}
 use Rattle.cmd_tasks.specs.declared.trace.Item.{Item}
-use Rattle.cmd_tasks.specs.declared.trace.Item.TheVariants.{Looked, Wrote, Lost, Faulted}
+use Rattle.cmd_tasks.specs.declared.trace.Item.TheVariants.{Lost}
 use Rattle.cmd_tasks.specs.declared.work.State.{State}
-use Rattle.cmd_tasks.specs.declared.work.State.TheVariants.{Inserting, Selecting, Listing, Counting, Choosing, Changing, Done}
+use Rattle.cmd_tasks.specs.declared.work.State.TheVariants.{Inserting, Selecting, Listing, Counting, Choosing, Changing, Seeking, Deleting, Paging, Trying, Retrying, Done}
 use Rattle.cmd_tasks.specs.declared.work.Moved.{Moved}
 use Rattle.cmd_tasks.specs.declared.work.Moved.TheVariants as m
 
 -- the part of a find that its state tells
-abbrev pub paging : Part → Paging
+abbrev pub paging : Part → PageOf
 paging p = record { limit = p.limit; skip = p.skip; page = p.page.value }
 
 -- the command that an update is of
@@ -67,6 +61,11 @@ asked (Listing search progress part) = Some (find (filter_tree search.wanted.fil
 asked (Counting w last n) = Some (count_documents (filter_tree w.filter))
 asked (Choosing u progress) = Some (updating u)
 asked (Changing u read d) = Some (updating u)
+asked (Seeking d progress) = Some (deleting d)
+asked (Deleting d read id) = Some (deleting d)
+asked (Paging many stand) = Some (taking many)
+asked (Trying many stand attempt) = Some (taking many)
+asked (Retrying many stand id) = Some (taking many)
 asked (Done reply) = None
 
 -- the numbers of the page are within their bounds, and the state keeps how many were given before
@@ -88,7 +87,32 @@ IsReady (Listing search progress part) = IsSearchable search progress × IsPart 
 IsReady (Counting w last n) = IsWanted w × (n < 1001)
 IsReady (Choosing u progress) = IsUpdating u × (progress.shown < 10001)
 IsReady (Changing u read d) = IsUpdating u × KeepsLimits d
+IsReady (Seeking d progress) = IsDeletion d × (progress.shown < 10001) × AreShort progress.kept.items
+IsReady (Deleting d read id) = IsDeletion d × IsShort id
+IsReady (Paging many stand) = IsMany many × IsStand stand × (stand.is_whole ≡ false) × (stand.queue.items ≡ [])
+IsReady (Trying many stand attempt) = IsMany many × IsStand stand × (stand.matched < 20) × IsReadyTo attempt × (length stand.queue.items < 64)
+IsReady (Retrying many stand id) = IsMany many × IsStand stand × (stand.matched < 20) × IsShort id × (length stand.queue.items < 64)
 IsReady (Done reply) = ⊥
+
+-- updates are made as of this moment
+abbrev pub IsDoneAt : ℤ → Doing → Type 0
+IsDoneAt moment (Updates u at) = at ≡ moment
+IsDoneAt moment Deletes = ⊤
+
+-- how many writes of the request were accepted
+abbrev pub accepted_by : State → ℕ
+accepted_by (Inserting d) = 0
+accepted_by (Selecting search progress projection) = 0
+accepted_by (Listing search progress part) = 0
+accepted_by (Counting w last n) = 0
+accepted_by (Choosing u progress) = 0
+accepted_by (Changing u read d) = 0
+accepted_by (Seeking d progress) = 0
+accepted_by (Deleting d read id) = 0
+accepted_by (Paging many stand) = stand.modified
+accepted_by (Trying many stand attempt) = stand.modified
+accepted_by (Retrying many stand id) = stand.modified
+accepted_by (Done reply) = 0
 
 -- the state in which the command begins that was asked at this moment
 abbrev pub Begins : ℤ → CommandTree → State → Type 0
@@ -98,6 +122,11 @@ Begins moment c (Listing search progress part) = (asked (Listing search progress
 Begins moment c (Counting w last n) = (asked (Counting w last n) ≡ Some c) × IsReady (Counting w last n) × (last ≡ None) × (n ≡ 0)
 Begins moment c (Choosing u progress) = (asked (Choosing u progress) ≡ Some c) × IsReady (Choosing u progress) × IsFresh None progress × (u.lost.items ≡ []) × (u.moment ≡ moment)
 Begins moment c (Changing u read d) = ⊥
+Begins moment c (Seeking d progress) = (asked (Seeking d progress) ≡ Some c) × IsReady (Seeking d progress) × IsFresh None progress × (d.lost.items ≡ [])
+Begins moment c (Deleting d read id) = ⊥
+Begins moment c (Paging many stand) = (asked (Paging many stand) ≡ Some c) × IsReady (Paging many stand) × IsStart (option_map (λ p. p.last) many.page.value) stand × IsDoneAt moment many.doing
+Begins moment c (Trying many stand attempt) = ⊥
+Begins moment c (Retrying many stand id) = ⊥
 Begins moment c (Done reply) = ⊥
 
 -- of so many attempts that are left, each has a listing before it
@@ -113,6 +142,11 @@ left (Listing search progress part) = rank_of progress.last
 left (Counting w last n) = rank_of last
 left (Choosing u progress) = tries_rank (4 - length u.lost.items) + (rank_of progress.last + 1)
 left (Changing u read d) = tries_rank (4 - length u.lost.items)
+left (Seeking d progress) = tries_rank (4 - length d.lost.items) + (rank_of progress.last + 1)
+left (Deleting d read id) = tries_rank (4 - length d.lost.items)
+left (Paging many stand) = stand_left stand
+left (Trying many stand attempt) = stand_left stand + tries_left stand
+left (Retrying many stand id) = stand_left stand + (tries_left stand + 1)
 left (Done reply) = 0
 
 abbrev pub Steps : ℕ → ℕ → ℕ → State → List Entry → List Entry → Moved → Type 0
@@ -178,6 +212,11 @@ Fits s coll (Listing search progress part) = ⊤
 Fits s coll (Counting w last n) = ⊤
 Fits s coll (Choosing u progress) = ⊤
 Fits s coll (Changing u read d) = IsMadeOfRead (Update u.updates u.moment d) (Some read) (version s coll (id_of d))
+Fits s coll (Seeking d progress) = ⊤
+Fits s coll (Deleting d read id) = ⊤
+Fits s coll (Paging many stand) = ⊤
+Fits s coll (Trying many stand attempt) = IsMadeOfRead attempt.change (Some attempt.read) (version s coll attempt.id)
+Fits s coll (Retrying many stand id) = ⊤
 Fits s coll (Done reply) = ⊤
 
 module _ (base : Base) (coll : Name) (k : ℕ) where
@@ -201,6 +240,10 @@ module _ (base : Base) (coll : Name) (k : ℕ) where
       pub makes : MakesAnother u.updates moment x.doc d
       pub seen : IsSeen base coll (filter_tree u.search.wanted.filter) x (round sights)
 
+    -- where a command stands that takes many
+    abbrev pub stands_at : declared_many.Many → List Sight → Standing
+    stands_at many sights = standing base coll (filter_tree many.wanted.filter) (doing_of many.doing) (option_map (λ p. p.last) many.page.value) sights
+
     -- the state keeps what the sights so far have shown
     abbrev pub Keeps : State → List Sight → Type 0
     Keeps (Inserting d) sights = ⊤
@@ -211,6 +254,16 @@ module _ (base : Base) (coll : Name) (k : ℕ) where
         IsSearching base coll None u.search progress (round sights)
         × (chosen base coll k (filter_tree u.search.wanted.filter) u.search.sort sights ≡ None) × IsKept u sights
     Keeps (Changing u read d) sights = IsChosen u read d sights
+    Keeps (Seeking d progress) sights =
+        IsSearching base coll None d.search progress (round sights)
+        × (chosen base coll k (filter_tree d.search.wanted.filter) d.search.sort sights ≡ None) × (reverse d.lost.items ≡ losses sights)
+    Keeps (Deleting d read id) sights = IsPicked base coll k d read id sights
+    Keeps (Paging many stand) sights =
+        let st = stands_at many sights in IsWaiting base coll st sights × (st.queue ≡ []) × (st.again ≡ false) × IsStanding stand st [] × IsDoneAt moment many.doing
+    Keeps (Trying many stand attempt) sights =
+        let st = stands_at many sights in IsWaiting base coll st sights × IsAttempted (doing_of many.doing) stand attempt st × IsDoneAt moment many.doing
+    Keeps (Retrying many stand id) sights =
+        let st = stands_at many sights in IsWaiting base coll st sights × IsRetried stand id st × IsDoneAt moment many.doing
     Keeps (Done reply) sights = ⊥
 
     abbrev pub IsUnderWay : State → List Sight → Type 0

@@ -1,5 +1,5 @@
 -- How many byte strings of at most so many bytes come after one, in the order of bytes: it falls as ids rise.
-use Rattle.std.specs.Prelude.{◌≡◌, ℕ, zero, suc, ◌+◌, ◌-◌, ◌*◌, ◌<◌, List, [], ◌∷◌, ⊤, Option, Some, None, IfSome}
+use Rattle.std.specs.Prelude.{ℕ, zero, suc, ◌+◌, ◌-◌, ◌*◌, ◌<◌, List, [], ◌∷◌, ⊤, Option, Some, None}
 use Rattle.json_tree.specs.Tree.{Tree}
 use Rattle.json_tree.specs.Id.{IsId, IsInRange, key_of}
 

@@ -1,5 +1,5 @@
 -- Searches: listings for the first so many matching documents, in the order of a sort.
-use Rattle.std.specs.Prelude.{ℕ, List, [], ◌∷◌, length, Bool, true, false, ◌&&◌, not, nat_lt, is_none, Option, Some, None, if◌then◌else◌}
+use Rattle.std.specs.Prelude.{ℕ, List, [], ◌∷◌, length, Bool, false, ◌&&◌, not, nat_lt, is_none, Option, None, if◌then◌else◌}
 use Rattle.std.specs.Ordering.{on}
 use Rattle.sqlite_keyed.specs.Lists.{sort_by}
 use Rattle.shred_cols.specs.Row.{Version}

@@ -1,5 +1,5 @@
 -- Where a task stands: on a store's base and journal, whatever other sessions append between its steps.
-use Rattle.std.specs.Prelude.{◌≡◌, ℕ, ◌⊎◌, List, [], ◌∷◌, ◌++◌, length, Option, Some, ⊤}
+use Rattle.std.specs.Prelude.{◌≡◌, ℕ, ◌⊎◌, List, [], ◌∷◌, ◌++◌, length, Option, Some}
 use Rattle.std.specs.Option.{ForSome}
 use Rattle.store_core.specs.State.{State as Base}
 use Rattle.store_core.specs.declared.entry.Entry.{Entry}
@@ -15,7 +15,7 @@ use Rattle.cmd_tasks.specs.declared.trace.Item.{Item}
 use Rattle.cmd_tasks.specs.declared.task.Task.{Task}
 use Rattle.cmd_tasks.specs.declared.task.Served.{Served}
 use Rattle.cmd_tasks.specs.declared.work.State.{State}
-use Rattle.cmd_tasks.specs.declared.work.State.TheVariants.{Inserting, Selecting, Listing, Counting, Choosing, Changing, Done}
+use Rattle.cmd_tasks.specs.declared.work.State.TheVariants.{Inserting, Selecting, Listing, Counting, Choosing, Changing, Seeking, Deleting, Paging, Trying, Retrying, Done}
 
 -- the task isn't done, and stands on a history, which begins at this state where that is told
 pub record StandsOn (start : Option Base) (H : List Entry) (task : Task) : Type 0 where
@@ -43,6 +43,11 @@ IfDone (Listing search progress part) P = ⊥
 IfDone (Counting w last n) P = ⊥
 IfDone (Choosing u progress) P = ⊥
 IfDone (Changing u read d) P = ⊥
+IfDone (Seeking d progress) P = ⊥
+IfDone (Deleting d read id) P = ⊥
+IfDone (Paging many stand) P = ⊥
+IfDone (Trying many stand attempt) P = ⊥
+IfDone (Retrying many stand id) P = ⊥
 IfDone (Done reply) P = P reply
 
 -- the request of a task that is done, as it was served

@@ -1,5 +1,5 @@
 -- Filters with their plans.
-use Rattle.std.specs.Prelude.{◌≡◌, true, IfSome}
+use Rattle.std.specs.Prelude.{IfSome}
 use Rattle.filter_tree.specs.View.{filter_tree}
 use Rattle.filter_plan.specs.View.{IsPlanOf}
 use Rattle.cmd_grammar.specs.Commands.{IsAskableFilter}

@@ -2,11 +2,12 @@
 ghost use Rattle.std.specs.Prelude.{◌≡◌, ◌<◌, ◌≤◌, ◌-◌, ◌^◌, ℤ, None, Some};
 ghost use Rattle.std.specs.Option.{option_map};
 ghost use Rattle.filter_tree.specs.View.{filter_tree};
-ghost use Rattle.cmd_grammar.specs.Commands.{IsAskableFilter, IsAskablePaging, Paging, find_one, find, update_one};
+ghost use Rattle.cmd_grammar.specs.Commands.{IsAskableFilter, IsAskablePage, IsAskablePaging, Paging, find_one, find, update_one, update_many, delete_one, delete_many};
 ghost use Rattle.cmd_tasks.specs.Part.{given_of, from_of, most_of};
 ghost use Rattle.cmd_tasks.specs.Moves.{Begins};
+ghost use Rattle.cmd_tasks.specs.Many.{IsStart};
 
-use crate::work::{Part, Progress, Search, State, Updating, Wanted};
+use crate::work::{Deletion, Doing, Many, Part, Progress, Search, Stand, State, Updating, Wanted};
 use filter_tree::Filter;
 use json_tree::DocId;
 use std::alloc::Global;
@@ -122,5 +123,80 @@ pub(crate) fn listing(
             given,
             page: snapshot,
         },
+    }
+}
+
+/// The state in which deleteOne begins.
+pub(crate) fn seeking(alloc: Global, filter: Filter, sort: Sort) -> State
+    requires { IsAskableFilter (filter_tree filter) }
+    ensures { (moment : ℤ) → Begins moment (delete_one (filter_tree filter) sort) result }
+{
+    State::Seeking {
+        deletion: Deletion {
+            search: Search {
+                wanted: Wanted::new(alloc, filter),
+                sort,
+                keep: 1,
+            },
+            lost: Vec::new(alloc),
+        },
+        progress: Progress::begin(alloc, None),
+    }
+}
+
+/// Nothing is listed yet of many documents; their first page begins behind this id.
+fn stand_at(alloc: Global, from: Option<DocId>) -> Stand
+    ensures { IsStart from result }
+{
+    Stand {
+        from,
+        is_whole: false,
+        queue: Vec::new(alloc),
+        lost: Vec::new(alloc),
+        matched: 0,
+        modified: 0,
+        last: None,
+    }
+}
+
+/// The state in which updateMany begins.
+pub(crate) fn updating_many(
+    alloc: Global,
+    moment: i64,
+    filter: Filter,
+    updates: Updates,
+    page: Option<PageState>,
+) -> State
+    requires filter { IsAskableFilter (filter_tree filter) }
+    requires page { IsAskablePage page }
+    ensures { Begins moment (update_many (filter_tree filter) updates page) result }
+{
+    let snapshot = Snapshot::of(&page);
+    let given = given_before(&page);
+    State::Paging {
+        many: Many {
+            wanted: Wanted::new(alloc, filter),
+            doing: Doing::Updates { updates, moment },
+            given,
+            page: snapshot,
+        },
+        stand: stand_at(alloc, last_before(page)),
+    }
+}
+
+/// The state in which deleteMany begins.
+pub(crate) fn deleting_many(alloc: Global, filter: Filter) -> State
+    requires { IsAskableFilter (filter_tree filter) }
+    ensures { (moment : ℤ) → Begins moment (delete_many (filter_tree filter)) result }
+{
+    let page: Option<PageState> = None;
+    State::Paging {
+        many: Many {
+            wanted: Wanted::new(alloc, filter),
+            doing: Doing::Deletes,
+            given: 0,
+            page: Snapshot::of(&page),
+        },
+        stand: stand_at(alloc, None),
     }
 }

@@ -16,7 +16,7 @@ ghost use Rattle.store_core.specs.Growth.{Grows};
 ghost use Rattle.cmd_tasks.specs.Pages.{up_of, pair_of};
 ghost use Rattle.cmd_tasks.specs.Rank.{IsKeyed};
 ghost use Rattle.cmd_tasks.specs.Wanted.{IsWanted};
-ghost use Rattle.cmd_tasks.specs.Looking.{ShowsRows, ShowsNothing, StopsWith, Glances, Sees, GoesUp, Refuses};
+ghost use Rattle.cmd_tasks.specs.Looking.{ShowsShort, ShowsFew, ShowsRows, ShowsNothing, StopsWith, Glances, Sees, GoesUp, Refuses};
 ghost use Rattle.cmd_tasks.specs.declared.trace.Item.TheVariants.{Faulted};
 
 use crate::trace::Item;
@@ -200,6 +200,8 @@ pub(crate) fn glance<K: Keeper>(
     requires known { by < opened_in store.old.journal }
     requires wanted { IsWanted wanted.now }
     ensures made { Glances by (K.failed store.old.keeper) (K.failed store.new.keeper) last.now store.old.journal store.new.journal result }
+    ensures short { ShowsShort result }
+    ensures few { ShowsFew result }
     ensures told { ForSome store.old.start (λ base. Sees base coll.now by store.new.journal (filter_tree wanted.now.filter) last.now result) }
     ensures base { SameBase store.old store.new }
     ensures grows { Grows (Some by) store.old.journal store.new.journal }

@@ -1,5 +1,5 @@
 // Laws of tasks and sessions: each function does nothing, and its clauses are the laws.
-ghost use Rattle.std.specs.Prelude.{◌≡◌, ◌≢◌, ◌≤◌, ◌+◌, ℕ, ℤ, List, Option, length, slice_get, slice_set, [], ◌∷◌, ◌++◌, Some, true};
+ghost use Rattle.std.specs.Prelude.{◌≡◌, ◌≢◌, ◌≤◌, ◌+◌, ℕ, ℤ, List, Option, length, slice_get, slice_set, [], ◌∷◌, ◌++◌, Some, None, true};
 ghost use Rattle.std.specs.List.{AllByRecursion as Each};
 ghost use Rattle.std.specs.Option.{ForSome};
 ghost use Rattle.shred_cols.specs.Rows.{ascends};
@@ -12,10 +12,15 @@ ghost use Rattle.store_core.specs.Counts.{AllBy, opened_in};
 ghost use Rattle.store_core.specs.declared.entry.Entry.{Entry as Journaled};
 ghost use Rattle.store_core.specs.declared.entry.Entry.TheVariants.{Opened};
 ghost use Rattle.filter_tree.specs.Filters.{FilterTree};
-ghost use Rattle.cmd_grammar.specs.Commands.{CommandTree, Shows, command_tree};
-ghost use Rattle.cmd_tasks.specs.Served.{IsServed};
+ghost use Rattle.update_ops.specs.Clauses.{Clause};
+ghost use Rattle.view_sort.specs.declared.page.PageState.{PageState};
+ghost use Rattle.cmd_grammar.specs.Commands.{CommandTree, Shows, command_tree, update_many, delete_many};
+ghost use Rattle.cmd_tasks.specs.Served.{IsServed, sights};
 ghost use Rattle.cmd_tasks.specs.Session.{Exchange, IsSession, IsAnswered, AreSessions, AreWithin, NoWork, Records};
 ghost use Rattle.cmd_tasks.specs.Joined.{Page, IdsAreTold, ArePages, ShowEachOnce};
+ghost use Rattle.cmd_tasks.specs.Doing.{updates, deletes};
+ghost use Rattle.cmd_tasks.specs.Tally.{AreTaken};
+ghost use Rattle.cmd_tasks.specs.Moves.{accepted_by};
 ghost use Rattle.cmd_tasks.specs.Stands.{StandsOn};
 ghost use Rattle.cmd_tasks.specs.declared.task.Task.{Task as Tasked};
 ghost use Rattle.cmd_tasks.specs.declared.trace.Item.{Item as Seen};
@@ -30,7 +35,7 @@ pub fn others_may_append()
 /// The trace of a task that stands, with the reply for want of memory, was served.
 pub fn a_task_may_be_cut_off()
     ensures { (start : Option Base) (history : List Journaled) (task : Tasked) → StandsOn start history task
-        → ForSome start (λ base. IsServed base history task.coll task.session task.trace.moment (command_tree task.command.value) task.trace.items.items (NoMemory 0)) }
+        → ForSome start (λ base. IsServed base history task.coll task.session task.trace.moment (command_tree task.command.value) task.trace.items.items (NoMemory (accepted_by task.state))) }
 {}
 
 /// What was served stays served in every longer history.
@@ -84,3 +89,15 @@ pub fn pages_show_each_once()
 {
     page_states_are_one();
 }
+
+/// Each document that matched when updateMany or deleteMany looked at its page is counted once, or another session changed it
+/// behind that look and then it no longer matched, or the command ended before its turn: then the reply tells that more match,
+/// or an error, or want of memory. The counts of the reply are those of the documents that were counted, and of the writes. Where
+/// the reply tells that no more match, pages came by each id behind the start. This holds where the rows of the base ascend, as
+/// a keeper's tables do.
+pub fn each_match_is_counted()
+    ensures updated { (base : Base) (history : List Journaled) (coll : Name) (k : ℕ) (moment : ℤ) (f : FilterTree) (u : List Clause) (page : Option PageState) (trace : List Seen) (reply : Answer)
+        → Each (λ c. ascends c.rows ≡ true) base.collections → IsServed base history coll k moment (update_many f u page) trace reply → AreTaken base coll k f (updates u moment) page (sights history trace) reply }
+    ensures deleted { (base : Base) (history : List Journaled) (coll : Name) (k : ℕ) (moment : ℤ) (f : FilterTree) (trace : List Seen) (reply : Answer)
+        → Each (λ c. ascends c.rows ≡ true) base.collections → IsServed base history coll k moment (delete_many f) trace reply → AreTaken base coll k f deletes None (sights history trace) reply }
+{}

@@ -2,12 +2,15 @@
 #![tactic(auto)]
 
 mod begin;
+mod deletes;
 mod finds;
 mod glance;
 mod laws;
+mod many;
 mod run;
 mod search;
 mod steps;
+mod taking;
 mod task;
 #[cfg(test)]
 mod tests;

@@ -7,7 +7,8 @@ ghost use Rattle.store_core.specs.Store.{IsLawful, SameBase};
 ghost use Rattle.store_core.specs.Growth.{Grows};
 ghost use Rattle.cmd_tasks.specs.Trace.{Sight};
 ghost use Rattle.cmd_tasks.specs.Searches.{bound};
-ghost use Rattle.cmd_tasks.specs.Finding.{are_too_many, AreDocuments, KeepsFirst, Adds};
+ghost use Rattle.cmd_tasks.specs.Looking.{AreShort};
+ghost use Rattle.cmd_tasks.specs.Finding.{are_too_many, AreDocuments, KeepsShort, KeepsFirst, Adds};
 ghost use Rattle.cmd_tasks.specs.Searching.{IsSearchable, IsSearching, IsUnended, Searches, Seeks};
 
 use crate::glance::{glance, refuse};
@@ -64,7 +65,8 @@ fn first(
     kept: Vec<Row>,
     rows: Vec<Row>,
 ) -> Result<Vec<Row>, ViewFault>
-    ensures { IfOk result (λ first. KeepsFirst search.now.sort search.now.keep kept.items rows.items first.items) }
+    ensures first { IfOk result (λ first. KeepsFirst search.now.sort search.now.keep kept.items rows.items first.items) }
+    ensures short { AreShort kept.items → AreShort rows.items → IfOk result (λ first. AreShort first.items) }
 {
     if rows.is_empty() {
         return Ok(kept);
@@ -88,7 +90,8 @@ fn added(
     last: Option<DocId>,
 ) -> Searched
     requires { progress.shown < 10001 }
-    ensures { Adds search.now progress item rows.items last result }
+    ensures adds { Adds search.now progress item rows.items last result }
+    ensures short { AreShort progress.kept.items → AreShort rows.items → KeepsShort result }
 {
     let shown = progress.shown + rows.len();
     if are_too_many(&search.sort, shown) {
@@ -119,6 +122,7 @@ pub(crate) fn search<K: Keeper>(
 ) -> Searched
     requires known { by < opened_in store.old.journal }
     requires searchable { IsSearchable search.now progress }
+    ensures short { AreShort progress.kept.items → KeepsShort result }
     ensures searches { Searches by (K.failed store.old.keeper) (K.failed store.new.keeper) search.now progress store.old.journal store.new.journal result }
     ensures seeks { ForSome store.old.start (λ base. (from : Option Tree) (looks : List Sight) → IsUnended base coll.now from search.now looks → IsSearching base coll.now from search.now progress looks
         → Seeks base coll.now from search.now by store.new.journal looks result) }

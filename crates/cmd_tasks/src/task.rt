@@ -8,11 +8,13 @@ ghost use Rattle.store_core.specs.Growth.{Grows};
 ghost use Rattle.store_core.specs.declared.entry.Entry.{Entry as Journaled};
 ghost use Rattle.cmd_grammar.specs.Commands.{command_tree, IsAskable};
 ghost use Rattle.cmd_tasks.specs.Served.{IsServed};
-ghost use Rattle.cmd_tasks.specs.Moves.{Steps, Promises, IsReady, Begins, Fits, left};
+ghost use Rattle.cmd_tasks.specs.Moves.{Steps, Promises, IsReady, Begins, Fits, left, accepted_by};
 ghost use Rattle.cmd_tasks.specs.Stands.{StandsOn, IsSame, Adds, IfDone};
 
-use crate::begin::{choosing, listing, selecting};
+use crate::begin::{choosing, deleting_many, listing, seeking, selecting, updating_many};
+use crate::deletes::{delete, seek};
 use crate::finds::{list, select};
+use crate::many::{list_more, look_again, try_one};
 use crate::steps::{count, insert};
 use crate::trace::{Item, Trace};
 use crate::updates::{change, choose};
@@ -81,7 +83,31 @@ fn advance<K: Keeper>(
         } => count(alloc, store, by, coll, wanted, last, shown),
         State::Choosing { update, progress } => choose(alloc, store, by, coll, update, progress),
         State::Changing { update, read, doc } => change(alloc, store, by, coll, update, read, doc),
+        State::Seeking { deletion, progress } => seek(alloc, store, by, coll, deletion, progress),
+        State::Deleting { deletion, read, id } => {
+            delete(alloc, store, by, coll, deletion, read, id)
+        }
+        State::Paging { many, stand } => list_more(alloc, store, by, coll, many, stand),
+        State::Trying {
+            many,
+            stand,
+            attempt,
+        } => try_one(alloc, store, by, coll, many, stand, attempt),
+        State::Retrying { many, stand, id } => {
+            look_again(alloc, store, by, coll, many, stand, id)
+        }
         State::Done { reply: _ } => unreachable!(),
+    }
+}
+
+/// How many writes of the request were accepted.
+fn accepted_by(state: &State) -> u64
+    ensures { result ≡ accepted_by state.now }
+{
+    match state {
+        State::Paging { stand, .. } | State::Trying { stand, .. } | State::Retrying { stand, .. } =>
+            stand.modified,
+        _ => 0,
     }
 }
 
@@ -115,6 +141,13 @@ fn first_state(alloc: Global, moment: i64, command: Command) -> State
             updates,
             sort,
         } => choosing(alloc, moment, filter, updates, sort),
+        Command::UpdateMany {
+            filter,
+            updates,
+            page,
+        } => updating_many(alloc, moment, filter, updates, page),
+        Command::DeleteOne { filter, sort } => seeking(alloc, filter, sort),
+        Command::DeleteMany { filter } => deleting_many(alloc, filter),
     }
 }
 
@@ -156,7 +189,9 @@ impl Task {
         store.journal_len();
         numbers_are_given_once();
         let ended = State::Done {
-            reply: Reply::NoMemory { accepted: 0 },
+            reply: Reply::NoMemory {
+                accepted: accepted_by(&self.state),
+            },
         };
         let state = mem::replace(&mut self.state, ended);
         if self.trace.items.reserve(1).is_err() {
@@ -206,7 +241,12 @@ impl Task {
             | State::Listing { .. }
             | State::Counting { .. }
             | State::Choosing { .. }
-            | State::Changing { .. } => { unreachable!() }
+            | State::Changing { .. }
+            | State::Seeking { .. }
+            | State::Deleting { .. }
+            | State::Paging { .. }
+            | State::Trying { .. }
+            | State::Retrying { .. } => { unreachable!() }
         }
     }
 }

@@ -6,9 +6,11 @@ ghost use Rattle.store_core.specs.declared.entry.Entry.{Entry as Journaled};
 ghost use Rattle.cmd_tasks.specs.Stands.{StandsOn};
 ghost use Rattle.cmd_grammar.specs.Commands.{command_tree, IsAskable};
 
+mod many;
+
 use crate::run::serve;
 use crate::task::{Next, Served, Task};
-use crate::trace::Item;
+use crate::trace::{Item, Trace};
 use cmd_grammar::{Command, read_request};
 use doc_paths::CollName;
 use json_tree::Text;
@@ -65,18 +67,29 @@ fn tells(item: &Item) -> (&'static str, u64) {
     }
 }
 
-// What a request saw and did, item by item with their points, and then its reply.
-fn tale(alloc: Global, served: &Served) -> Result<String, Fail> {
+// What a request saw and did, item by item with their points.
+fn items_of(alloc: Global, trace: &Trace) -> Result<String, Fail> {
     let mut tale = String::new(alloc);
-    for place in 0..served.trace.len() {
-        if let Some(item) = served.trace.item(place) {
+    for place in 0..trace.len() {
+        if let Some(item) = trace.item(place) {
             let (word, at) = tells(item);
             tale.push_str(&format!(in alloc; "{word} {at} ")?)?;
         }
     }
-    let mut reply = Vec::new(alloc);
-    print_reply(alloc, &served.reply, &mut reply)?;
-    tale.push_str(str::from_utf8(reply.as_slice()).unwrap_or("?"))?;
+    Ok(tale)
+}
+
+// The text of a reply.
+fn text_of(alloc: Global, reply: &Reply) -> Result<Vec<u8>, Fail> {
+    let mut text = Vec::new(alloc);
+    print_reply(alloc, reply, &mut text)?;
+    Ok(text)
+}
+
+// What it saw and did, and then its reply.
+fn tale(alloc: Global, served: &Served) -> Result<String, Fail> {
+    let mut tale = items_of(alloc, &served.trace)?;
+    tale.push_str(str::from_utf8(text_of(alloc, &served.reply)?.as_slice()).unwrap_or("?"))?;
     Ok(tale)
 }
 
@@ -241,6 +254,64 @@ fn requests_see_and_do_what_they_say(rt: HostRuntime) -> Result<(), Fail> {
     let wrong = first_wrong(alloc, &mut store, &ROWS);
     let _keeper = store.into_keeper();
     assert_eq!(rt; wrong?, None);
+    Ok(())
+}
+
+// The numbers that a look shows.
+fn add_numbers(alloc: Global, numbers: &mut String, item: &Item) -> Result<(), Fail> {
+    if let Item::Looked { shown, .. } = item {
+        for place in 0..shown.len() {
+            let number = shown[place].1;
+            numbers.push_str(&format!(in alloc; "{number} ")?)?;
+        }
+    }
+    Ok(())
+}
+
+// The numbers that the looks of a request show, if it is one.
+fn numbers_in(alloc: Global, store: &mut Store<MemKeeper>, body: &str) -> Result<String, Fail> {
+    let mut numbers = String::new(alloc);
+    let Some(served) = asked(alloc, store, "c", body)? else {
+        return Ok(numbers);
+    };
+    for place in 0..served.trace.len() {
+        if let Some(item) = served.trace.item(place) {
+            add_numbers(alloc, &mut numbers, item)?;
+        }
+    }
+    Ok(numbers)
+}
+
+// Documents a and b, and the numbers shown behind a write more of each.
+fn numbers_told(alloc: Global, store: &mut Store<MemKeeper>) -> Result<String, Fail> {
+    told(alloc, store, "c", ROWS[0].1)?;
+    told(alloc, store, "c", ROWS[9].1)?;
+    told(alloc, store, "c", INCREMENT)?;
+    let mut numbers = numbers_in(alloc, store, r#"{"find":{}}"#)?;
+    told(
+        alloc,
+        store,
+        "c",
+        r#"{"updateMany":{"update":{"$set":{"n":2}}}}"#,
+    )?;
+    numbers.push_str(numbers_in(
+        alloc,
+        store,
+        r#"{"updateMany":{"update":{"$set":{"n":2}}}}"#,
+    )?
+    .as_str())?;
+    Ok(numbers)
+}
+
+#[test]
+fn looks_tell_numbers(rt: HostRuntime) -> Result<(), Fail> {
+    let alloc = rt.alloc();
+    let Some(mut store) = opened(alloc, 99, 0)? else {
+        panic!(rt; "not opened");
+    };
+    let numbers = numbers_told(alloc, &mut store);
+    let _keeper = store.into_keeper();
+    assert_eq!(rt; numbers?.as_str(), "3 2 3 4 ");
     Ok(())
 }
 

@@ -28,7 +28,7 @@ use store_core::{Change, Store, WriteOutcome, entries_tell_numbers, numbers_are_
 use update_ops::{Applied, UpdateFault, ids_are_kept};
 
 /// So many attempts may be lost.
-const MOST: usize = 4;
+pub(crate) const MOST: usize = 4;
 
 /// The reply that so many matched, and so many of them were changed.
 fn updated(matched: u64, modified: u64) -> Reply
@@ -38,7 +38,7 @@ fn updated(matched: u64, modified: u64) -> Reply
 }
 
 /// The reply where the update is refused on the document.
-fn declined(alloc: Global, fault: UpdateFault) -> Reply
+pub(crate) fn declined(alloc: Global, fault: UpdateFault) -> Reply
     ensures cut { fault ≡ faults.NoMemory → result ≡ replies.NoMemory 0 }
     ensures told { fault ≢ faults.NoMemory → Refuses (error_of fault) result }
 {
@@ -127,7 +127,7 @@ pub(crate) fn choose<K: Keeper>(
 }
 
 /// The lost attempts with one more.
-fn with_loss(lost: Vec<Loss>, loss: Loss) -> Option<Vec<Loss>>
+pub(crate) fn with_loss(lost: Vec<Loss>, loss: Loss) -> Option<Vec<Loss>>
     ensures { IfSome result (λ more. more.items ≡ lost.items ++ loss ∷ []) }
 {
     let mut lost = lost;
@@ -138,7 +138,7 @@ fn with_loss(lost: Vec<Loss>, loss: Loss) -> Option<Vec<Loss>>
 }
 
 /// The reply that tells the lost attempts.
-fn conflict(alloc: Global, lost: &[Loss]) -> Reply
+pub(crate) fn conflict(alloc: Global, lost: &[Loss]) -> Reply
     ensures { Refuses (errors.lost_writes lost.now) result }
 {
     refuse(alloc, lost_writes(alloc, lost))

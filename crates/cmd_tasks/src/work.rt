@@ -15,6 +15,7 @@ use reply_env::{Loss, Reply};
 use shred_cols::Row;
 use std::alloc::Global;
 use std::snapshot::Snapshot;
+use store_core::Change;
 use update_ops::Updates;
 use view_sort::{PageState, Projection, Sort};
 
@@ -105,6 +106,53 @@ pub(crate) struct Updating {
     pub(crate) lost: Vec<Loss>,
 }
 
+/// A deletion that is asked for: what is searched for, of which the first match is deleted, and the attempts that were
+/// lost so far.
+#[derive(Drop)]
+pub(crate) struct Deletion {
+    pub(crate) search: Search,
+    pub(crate) lost: Vec<Loss>,
+}
+
+/// What is done to each document that matches.
+#[derive(Drop)]
+pub(crate) enum Doing {
+    Updates { updates: Updates, moment: i64 },
+    Deletes,
+}
+
+/// Many documents that are to be updated or deleted. `given` is how many were counted before the page that `page`
+/// tells, which takes no memory.
+#[derive(Drop)]
+pub(crate) struct Many {
+    pub(crate) wanted: Wanted,
+    pub(crate) doing: Doing,
+    pub(crate) given: u64,
+    pub(crate) page: Snapshot<Option<PageState>>,
+}
+
+/// How far many documents have come: where the next page begins or that there is none, what was shown and isn't taken
+/// yet, the last first, the lost attempts on the one that is taken, how many were counted and how many of these were
+/// changed, and the last of them.
+#[derive(Drop)]
+pub(crate) struct Stand {
+    pub(crate) from: Option<DocId>,
+    pub(crate) is_whole: bool,
+    pub(crate) queue: Vec<Row>,
+    pub(crate) lost: Vec<Loss>,
+    pub(crate) matched: u64,
+    pub(crate) modified: u64,
+    pub(crate) last: Option<DocId>,
+}
+
+/// A change that is to be written in the place of the version that was read.
+#[derive(Drop)]
+pub(crate) struct Attempt {
+    pub(crate) id: DocId,
+    pub(crate) read: u64,
+    pub(crate) change: Change,
+}
+
 /// What is to be done next.
 #[derive(Drop)]
 pub(crate) enum State {
@@ -134,6 +182,29 @@ pub(crate) enum State {
         update: Updating,
         read: u64,
         doc: Doc,
+    },
+    Seeking {
+        deletion: Deletion,
+        progress: Progress,
+    },
+    Deleting {
+        deletion: Deletion,
+        read: u64,
+        id: DocId,
+    },
+    Paging {
+        many: Many,
+        stand: Stand,
+    },
+    Trying {
+        many: Many,
+        stand: Stand,
+        attempt: Attempt,
+    },
+    Retrying {
+        many: Many,
+        stand: Stand,
+        id: DocId,
     },
     Done {
         reply: Reply,

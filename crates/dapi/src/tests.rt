@@ -1,10 +1,12 @@
 //! The top call on streams in memory: a table of calls, each with what it writes.
+mod changes;
 mod pages;
 mod rows;
 mod searches;
 
+use self::changes::{CHANGED, CHANGES, MANY};
 use self::pages::{OPTIONS, PAGES, STATES};
-use self::rows::{REQUESTS, RETURNS, STREAMS, UPDATES, WORDS};
+use self::rows::{DELETIONS, REQUESTS, RETURNS, STREAMS, UPDATES, WORDS};
 use self::searches::{FAULTS, FIRSTS, ORDER, REFUSED, SORTABLE, SORTED, SORTS, UNSORTABLE, VIEWS};
 use crate::top::dapi;
 use keeper_mem::MemKeeper;
@@ -177,7 +179,7 @@ fn searches_show_what_they_have_to(rt: HostRuntime) -> Result<(), Fail> {
 
 #[test]
 fn calls_write_what_they_have_to(rt: HostRuntime) -> Result<(), Fail> {
-    for rows in [REQUESTS, UPDATES, WORDS, STREAMS, RETURNS] {
+    for rows in [REQUESTS, UPDATES, DELETIONS, MANY, WORDS, STREAMS, RETURNS] {
         assert_eq!(rt; first_wrong(rt.alloc(), rows)?, "");
     }
     Ok(())
@@ -298,6 +300,15 @@ fn many_to_sort(alloc: Global) -> Result<String, Fail> {
     Ok(text)
 }
 
+// One row: documents of several pages of the store are updated and deleted.
+fn many_changed(alloc: Global) -> Result<String, Fail> {
+    let mut text = String::from_str(alloc, "run --collection=c | piece=4096\n")?;
+    add_lists(&mut text, [(0, 130, CHANGES), (0, 0, "")], false)?;
+    text.push_str("\n=> 0\n")?;
+    add_lists(&mut text, [(0, 130, CHANGED), (0, 0, "")], true)?;
+    Ok(text)
+}
+
 // A row that names so many collections, and its answer.
 fn add_collections(text: &mut String, count: u32, answer: &str) -> Result<(), Fail> {
     text.push_str("run")?;
@@ -330,6 +341,15 @@ fn long_body(alloc: Global) -> Result<String, Fail> {
     text.push_str(str::from_utf8(body.as_slice()).unwrap_or(""))?;
     text.push_str("\n=> 6\nline 2 is not a request\n{\"status\":{\"insertedIds\":[\"a\"]}}\n")?;
     Ok(text)
+}
+
+#[test]
+fn many_are_changed_on_several_pages(rt: HostRuntime) -> Result<(), Fail> {
+    let alloc = rt.alloc();
+    let keeper = MemKeeper::new(alloc, Vec::new(alloc), 0);
+    let text = many_changed(alloc)?;
+    assert_eq!(rt; first_wrong_over(alloc, keeper, text.as_str())?, "");
+    Ok(())
 }
 
 #[test]

@@ -1,3 +1,4 @@
 pub mod Pieces
 pub mod Ids
 pub mod Memory
+pub mod Kept

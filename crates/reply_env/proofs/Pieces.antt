@@ -20,7 +20,14 @@ two_pieces before one two a b p q = q ∙ ap (λ xs. xs ++ b) p ∙ append_assoc
 pub three_pieces : (before one two three a b c : List ℕ) → one ≡ before ++ a → two ≡ one ++ b → three ≡ two ++ c → three ≡ before ++ (a ++ b ++ c)
 three_pieces before one two three a b c p q r = two_pieces before two three (a ++ b) c (two_pieces before one two a b p q) r
 
+pub four_pieces : (before one two three four a b c d : List ℕ) → one ≡ before ++ a → two ≡ one ++ b → three ≡ two ++ c → four ≡ three ++ d → four ≡ before ++ (a ++ b ++ c ++ d)
+four_pieces before one two three four a b c d p q r s = two_pieces before three four (a ++ b ++ c) d (three_pieces before one two three a b c p q r) s
+
 pub five_pieces : (before one two three four five a b c d e : List ℕ) → one ≡ before ++ a → two ≡ one ++ b → three ≡ two ++ c → four ≡ three ++ d → five ≡ four ++ e
     → five ≡ before ++ (a ++ b ++ c ++ d ++ e)
-five_pieces before one two three four five a b c d e p q r s t =
-    two_pieces before four five (a ++ b ++ c ++ d) e (two_pieces before three four (a ++ b ++ c) d (three_pieces before one two three a b c p q r) s) t
+five_pieces before one two three four five a b c d e p q r s t = two_pieces before four five (a ++ b ++ c ++ d) e (four_pieces before one two three four a b c d p q r s) t
+
+pub six_pieces : (before one two three four five six a b c d e f : List ℕ) → one ≡ before ++ a → two ≡ one ++ b → three ≡ two ++ c → four ≡ three ++ d → five ≡ four ++ e → six ≡ five ++ f
+    → six ≡ before ++ (a ++ b ++ c ++ d ++ e ++ f)
+six_pieces before one two three four five six a b c d e f p q r s t u =
+    two_pieces before five six (a ++ b ++ c ++ d ++ e) f (five_pieces before one two three four five a b c d e p q r s t) u

@@ -11,7 +11,7 @@ use Rattle.reply_env.specs.declared.reply.ErrorItem.{ErrorItem}
 use Rattle.reply_env.specs.declared.reply.SoFar.{SoFar}
 use Rattle.reply_env.specs.declared.reply.SoFar.TheVariants as so_far
 use Rattle.reply_env.specs.declared.reply.Reply.{Reply}
-use Rattle.reply_env.specs.declared.reply.Reply.TheVariants.{Inserted, Found, Listed, Counted, Updated, Refused, NoMemory}
+use Rattle.reply_env.specs.declared.reply.Reply.TheVariants.{Inserted, Found, Listed, Counted, Updated, UpdatedMany, Deleted, DeletedMany, Refused, NoMemory}
 
 -- the texts of the parts, with commas between
 abbrev pub with_commas : {X : Type 0} → (X → List ℕ) → List X → List ℕ
@@ -41,9 +41,18 @@ more_text false = []
 abbrev pub inserted_text : List Tree → List ℕ
 inserted_text ids = codes "{\"insertedIds\":[" ++ with_commas text_of ids ++ codes "]}"
 
--- how many documents matched, and how many of them were changed
-abbrev pub updated_text : ℕ → ℕ → List ℕ
-updated_text matched modified = codes "{\"matchedCount\":" ++ decimal matched ++ codes ",\"modifiedCount\":" ++ decimal modified ++ codes "}"
+-- stands only where more matched than are counted: the page state with which the next page begins
+abbrev pub next_text : Option (List ℕ) → List ℕ
+next_text None = []
+next_text (Some state) = codes ",\"moreData\":true,\"nextPageState\":" ++ string_text state
+
+-- how many documents matched, how many of them were changed, and where the next page begins
+abbrev pub updated_text : ℕ → ℕ → Option (List ℕ) → List ℕ
+updated_text matched modified state = codes "{\"matchedCount\":" ++ decimal matched ++ codes ",\"modifiedCount\":" ++ decimal modified ++ next_text state ++ codes "}"
+
+-- how many documents were deleted, and whether more matched
+abbrev pub deleted_text : ℕ → Bool → List ℕ
+deleted_text deleted more = codes "{\"deletedCount\":" ++ decimal deleted ++ more_text more ++ codes "}"
 
 -- ---- errors
 
@@ -56,8 +65,8 @@ errors_text errors = codes "\"errors\":[" ++ with_commas error_text errors ++ co
 -- what the accepted writes of a refused request did: it stands before the errors
 abbrev pub so_far_text : SoFar → List ℕ
 so_far_text (so_far.Inserted ids) = inserted_text ids.items
-so_far_text (so_far.Updated matched modified) = updated_text matched modified
-so_far_text (so_far.Deleted deleted) = codes "{\"deletedCount\":" ++ decimal deleted ++ codes "}"
+so_far_text (so_far.Updated matched modified) = updated_text matched modified None
+so_far_text (so_far.Deleted deleted) = deleted_text deleted false
 
 abbrev pub status_text : Option SoFar → List ℕ
 status_text None = codes "{"
@@ -70,11 +79,18 @@ reply_text (Inserted ids) = codes "{\"status\":" ++ inserted_text ids.items ++ c
 reply_text (Found view) = codes "{\"data\":{\"document\":" ++ view_text view ++ codes "}}"
 reply_text (Listed views state) = codes "{\"data\":" ++ listed_text views.items state ++ codes "}"
 reply_text (Counted count more) = codes "{\"status\":{\"count\":" ++ decimal count ++ more_text more ++ codes "}}"
-reply_text (Updated matched modified) = codes "{\"status\":" ++ updated_text matched modified ++ codes "}"
+reply_text (Updated matched modified) = codes "{\"status\":" ++ updated_text matched modified None ++ codes "}"
+reply_text (UpdatedMany matched modified state) = codes "{\"status\":" ++ updated_text matched modified state ++ codes "}"
+reply_text (Deleted deleted) = codes "{\"status\":" ++ deleted_text deleted false ++ codes "}"
+reply_text (DeletedMany deleted more) = codes "{\"status\":" ++ deleted_text deleted more ++ codes "}"
 reply_text (Refused errors done) = status_text done ++ errors_text errors.items
 reply_text (NoMemory accepted) = codes "{" ++ errors_text (out_of_memory accepted ∷ [])
 
+-- the reply refuses by this error alone, and tells this of what was written before
+abbrev pub IsRefusalAfter : Option SoFar → ErrorItem → Reply → Type 0
+IsRefusalAfter so_far error (Refused errors done) = (errors.items ≡ error ∷ []) × (done ≡ so_far)
+IsRefusalAfter so_far error reply = ⊥
+
 -- the reply refuses by this error alone, and nothing was written before
 abbrev pub IsRefusal : ErrorItem → Reply → Type 0
-IsRefusal error (Refused errors done) = (errors.items ≡ error ∷ []) × (done ≡ None)
-IsRefusal error reply = ⊥
+IsRefusal error reply = IsRefusalAfter None error reply

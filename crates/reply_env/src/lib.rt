@@ -18,7 +18,7 @@ pub use errors::{
 pub use fault::ReplyFault;
 pub use fixed::{FixedText, no_memory_reply};
 pub use print::print_reply;
-pub use reply::{ErrorItem, Reply, SoFar, refusal};
+pub use reply::{ErrorItem, Reply, SoFar, refusal, refusal_after};
 pub use request::{Place, Request};
 pub use update_errors::{
     Loss, bad_update_operand, id_unchangeable, lost_writes, no_update_operator,

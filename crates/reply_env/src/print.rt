@@ -2,10 +2,10 @@
 ghost use Rattle.std.specs.Prelude.{◌≡◌, ◌++◌, ◌∷◌, [], codes, decimal, OnOk, OnErr};
 ghost use Rattle.std.specs.List.{flat_map};
 ghost use Rattle.json_tree.specs.View.{tree};
-ghost use Rattle.json_text.specs.Print.{escaped, string_text, text_of};
+ghost use Rattle.json_text.specs.Print.{escaped, string_text, text_of, Extends};
 ghost use Rattle.name_tables.specs.Code.{code_text};
 ghost use Rattle.reply_env.specs.Messages.{out_of_memory};
-ghost use Rattle.reply_env.specs.Reply.{with_commas, view_text, state_text as page_text, listed_text, more_text, inserted_text, updated_text, error_text, errors_text, so_far_text, status_text, reply_text};
+ghost use Rattle.reply_env.specs.Reply.{with_commas, view_text, state_text as page_text, listed_text, more_text, inserted_text, next_text, updated_text, deleted_text, error_text, errors_text, so_far_text, status_text, reply_text};
 
 use crate::fault::ReplyFault;
 use crate::fixed::no_memory_reply;
@@ -15,16 +15,20 @@ use json_tree::{DocId, Text, Value};
 use std::alloc::{AllocError, Global};
 
 // A number in decimal.
+#[tactic(auto, using(crate::proofs::Kept::kept))]
 fn print_decimal(n: u64, out: &mut Vec<u8>) -> Result<(), AllocError>
-    ensures { OnOk result (out.new.items ≡ out.old.items ++ decimal n) }
+    ensures ok { OnOk result (out.new.items ≡ out.old.items ++ decimal n) }
+    ensures kept { OnErr result (Extends out.old.items out.new.items) }
 {
     let mut buffer = itoa::Buffer::new();
     out.extend_from_slice(buffer.format(n).as_bytes())
 }
 
 // The canonical text of a value.
+#[tactic(auto, using(crate::proofs::Kept::kept))]
 fn print_tree(value: &Value, out: &mut Vec<u8>) -> Result<(), AllocError>
-    ensures { OnOk result (out.new.items ≡ out.old.items ++ text_of (tree value.now)) }
+    ensures ok { OnOk result (out.new.items ≡ out.old.items ++ text_of (tree value.now)) }
+    ensures kept { OnErr result (Extends out.old.items out.new.items) }
 {
     match print_value(value, out) {
         Ok(()) => Ok(()),
@@ -32,8 +36,10 @@ fn print_tree(value: &Value, out: &mut Vec<u8>) -> Result<(), AllocError>
     }
 }
 
+#[tactic(auto, using(crate::proofs::Kept::kept))]
 fn print_string(text: &str, out: &mut Vec<u8>) -> Result<(), AllocError>
-    ensures { OnOk result (out.new.items ≡ out.old.items ++ string_text text.now) }
+    ensures ok { OnOk result (out.new.items ≡ out.old.items ++ string_text text.now) }
+    ensures kept { OnErr result (Extends out.old.items out.new.items) }
 {
     out.push(b'"')?;
     print_content(text.as_bytes(), out)?;
@@ -41,15 +47,19 @@ fn print_string(text: &str, out: &mut Vec<u8>) -> Result<(), AllocError>
     Ok(())
 }
 
+#[tactic(auto, using(crate::proofs::Kept::kept))]
 fn print_id(id: &DocId, out: &mut Vec<u8>) -> Result<(), AllocError>
-    ensures { OnOk result (out.new.items ≡ out.old.items ++ text_of id.now) }
+    ensures ok { OnOk result (out.new.items ≡ out.old.items ++ text_of id.now) }
+    ensures kept { OnErr result (Extends out.old.items out.new.items) }
 {
     print_tree(id.value(), out)
 }
 
 // The ids, with a comma before each.
+#[tactic(auto, using(crate::proofs::Kept::kept))]
 fn print_further_ids(ids: &[DocId], out: &mut Vec<u8>) -> Result<(), AllocError>
-    ensures { OnOk result (out.new.items ≡ out.old.items ++ flat_map (λ id. 44 ∷ text_of id) ids.now) }
+    ensures ok { OnOk result (out.new.items ≡ out.old.items ++ flat_map (λ id. 44 ∷ text_of id) ids.now) }
+    ensures kept { OnErr result (Extends out.old.items out.new.items) }
 {
     for id in ids {
         out.push(b',')?;
@@ -58,8 +68,10 @@ fn print_further_ids(ids: &[DocId], out: &mut Vec<u8>) -> Result<(), AllocError>
     Ok(())
 }
 
+#[tactic(auto, using(crate::proofs::Kept::kept))]
 fn print_ids(ids: &[DocId], out: &mut Vec<u8>) -> Result<(), AllocError>
-    ensures { OnOk result (out.new.items ≡ out.old.items ++ with_commas text_of ids.now) }
+    ensures ok { OnOk result (out.new.items ≡ out.old.items ++ with_commas text_of ids.now) }
+    ensures kept { OnErr result (Extends out.old.items out.new.items) }
 {
     match ids {
         [] => Ok(()),
@@ -70,8 +82,10 @@ fn print_ids(ids: &[DocId], out: &mut Vec<u8>) -> Result<(), AllocError>
     }
 }
 
+#[tactic(auto, using(crate::proofs::Kept::kept))]
 fn print_inserted(ids: &[DocId], out: &mut Vec<u8>) -> Result<(), AllocError>
-    ensures { OnOk result (out.new.items ≡ out.old.items ++ inserted_text ids.now) }
+    ensures ok { OnOk result (out.new.items ≡ out.old.items ++ inserted_text ids.now) }
+    ensures kept { OnErr result (Extends out.old.items out.new.items) }
 {
     out.extend_from_slice(b"{\"insertedIds\":[")?;
     print_ids(ids, out)?;
@@ -79,8 +93,10 @@ fn print_inserted(ids: &[DocId], out: &mut Vec<u8>) -> Result<(), AllocError>
     Ok(())
 }
 
+#[tactic(auto, using(crate::proofs::Kept::kept))]
 fn print_error(error: &ErrorItem, out: &mut Vec<u8>) -> Result<(), AllocError>
-    ensures { OnOk result (out.new.items ≡ out.old.items ++ error_text error.now) }
+    ensures ok { OnOk result (out.new.items ≡ out.old.items ++ error_text error.now) }
+    ensures kept { OnErr result (Extends out.old.items out.new.items) }
 {
     out.extend_from_slice(b"{\"message\":")?;
     print_string(error.message.as_str(), out)?;
@@ -91,8 +107,10 @@ fn print_error(error: &ErrorItem, out: &mut Vec<u8>) -> Result<(), AllocError>
 }
 
 // The errors, with a comma before each.
+#[tactic(auto, using(crate::proofs::Kept::kept))]
 fn print_further_errors(errors: &[ErrorItem], out: &mut Vec<u8>) -> Result<(), AllocError>
-    ensures { OnOk result (out.new.items ≡ out.old.items ++ flat_map (λ error. 44 ∷ error_text error) errors.now) }
+    ensures ok { OnOk result (out.new.items ≡ out.old.items ++ flat_map (λ error. 44 ∷ error_text error) errors.now) }
+    ensures kept { OnErr result (Extends out.old.items out.new.items) }
 {
     for error in errors {
         out.push(b',')?;
@@ -101,8 +119,10 @@ fn print_further_errors(errors: &[ErrorItem], out: &mut Vec<u8>) -> Result<(), A
     Ok(())
 }
 
+#[tactic(auto, using(crate::proofs::Kept::kept))]
 fn print_error_list(errors: &[ErrorItem], out: &mut Vec<u8>) -> Result<(), AllocError>
-    ensures { OnOk result (out.new.items ≡ out.old.items ++ with_commas error_text errors.now) }
+    ensures ok { OnOk result (out.new.items ≡ out.old.items ++ with_commas error_text errors.now) }
+    ensures kept { OnErr result (Extends out.old.items out.new.items) }
 {
     match errors {
         [] => Ok(()),
@@ -113,8 +133,10 @@ fn print_error_list(errors: &[ErrorItem], out: &mut Vec<u8>) -> Result<(), Alloc
     }
 }
 
+#[tactic(auto, using(crate::proofs::Kept::kept))]
 fn print_errors(errors: &[ErrorItem], out: &mut Vec<u8>) -> Result<(), AllocError>
-    ensures { OnOk result (out.new.items ≡ out.old.items ++ errors_text errors.now) }
+    ensures ok { OnOk result (out.new.items ≡ out.old.items ++ errors_text errors.now) }
+    ensures kept { OnErr result (Extends out.old.items out.new.items) }
 {
     out.extend_from_slice(b"\"errors\":[")?;
     print_error_list(errors, out)?;
@@ -122,38 +144,79 @@ fn print_errors(errors: &[ErrorItem], out: &mut Vec<u8>) -> Result<(), AllocErro
     Ok(())
 }
 
-fn print_updated(matched: u64, modified: u64, out: &mut Vec<u8>) -> Result<(), AllocError>
-    ensures { OnOk result (out.new.items ≡ out.old.items ++ updated_text matched modified) }
+// Where the next page begins, where there is one.
+#[tactic(auto, using(crate::proofs::Kept::kept))]
+fn print_next(state: &Option<Text>, out: &mut Vec<u8>) -> Result<(), AllocError>
+    ensures ok { OnOk result (out.new.items ≡ out.old.items ++ next_text state.now) }
+    ensures kept { OnErr result (Extends out.old.items out.new.items) }
+{
+    match state {
+        None => Ok(()),
+        Some(state) => {
+            out.extend_from_slice(b",\"moreData\":true,\"nextPageState\":")?;
+            print_string(state.as_str(), out)
+        }
+    }
+}
+
+#[tactic(auto, using(crate::proofs::Kept::kept))]
+fn print_updated(
+    matched: u64,
+    modified: u64,
+    state: &Option<Text>,
+    out: &mut Vec<u8>,
+) -> Result<(), AllocError>
+    ensures ok { OnOk result (out.new.items ≡ out.old.items ++ updated_text matched modified state.now) }
+    ensures kept { OnErr result (Extends out.old.items out.new.items) }
 {
     out.extend_from_slice(b"{\"matchedCount\":")?;
     print_decimal(matched, out)?;
     out.extend_from_slice(b",\"modifiedCount\":")?;
     print_decimal(modified, out)?;
+    print_next(state, out)?;
     out.push(b'}')?;
     Ok(())
 }
 
-fn print_deleted(deleted: u64, out: &mut Vec<u8>) -> Result<(), AllocError>
-    ensures { OnOk result (out.new.items ≡ out.old.items ++ (codes "{\"deletedCount\":" ++ decimal deleted ++ codes "}")) }
+#[tactic(auto, using(crate::proofs::Kept::kept))]
+fn print_more(more: bool, out: &mut Vec<u8>) -> Result<(), AllocError>
+    ensures ok { OnOk result (out.new.items ≡ out.old.items ++ more_text more) }
+    ensures kept { OnErr result (Extends out.old.items out.new.items) }
+{
+    if more {
+        out.extend_from_slice(b",\"moreData\":true")?;
+    }
+    Ok(())
+}
+
+#[tactic(auto, using(crate::proofs::Kept::kept))]
+fn print_deleted(deleted: u64, more: bool, out: &mut Vec<u8>) -> Result<(), AllocError>
+    ensures ok { OnOk result (out.new.items ≡ out.old.items ++ deleted_text deleted more) }
+    ensures kept { OnErr result (Extends out.old.items out.new.items) }
 {
     out.extend_from_slice(b"{\"deletedCount\":")?;
     print_decimal(deleted, out)?;
+    print_more(more, out)?;
     out.push(b'}')?;
     Ok(())
 }
 
+#[tactic(auto, using(crate::proofs::Kept::kept))]
 fn print_so_far(so_far: &SoFar, out: &mut Vec<u8>) -> Result<(), AllocError>
-    ensures { OnOk result (out.new.items ≡ out.old.items ++ so_far_text so_far.now) }
+    ensures ok { OnOk result (out.new.items ≡ out.old.items ++ so_far_text so_far.now) }
+    ensures kept { OnErr result (Extends out.old.items out.new.items) }
 {
     match so_far {
         SoFar::Inserted(ids) => print_inserted(ids.as_slice(), out),
-        SoFar::Updated { matched, modified } => print_updated(*matched, *modified, out),
-        SoFar::Deleted { deleted } => print_deleted(*deleted, out),
+        SoFar::Updated { matched, modified } => print_updated(*matched, *modified, &None, out),
+        SoFar::Deleted { deleted } => print_deleted(*deleted, false, out),
     }
 }
 
+#[tactic(auto, using(crate::proofs::Kept::kept))]
 fn print_status(so_far: &Option<SoFar>, out: &mut Vec<u8>) -> Result<(), AllocError>
-    ensures { OnOk result (out.new.items ≡ out.old.items ++ status_text so_far.now) }
+    ensures ok { OnOk result (out.new.items ≡ out.old.items ++ status_text so_far.now) }
+    ensures kept { OnErr result (Extends out.old.items out.new.items) }
 {
     match so_far {
         None => {
@@ -169,8 +232,10 @@ fn print_status(so_far: &Option<SoFar>, out: &mut Vec<u8>) -> Result<(), AllocEr
     }
 }
 
+#[tactic(auto, using(crate::proofs::Kept::kept))]
 fn print_view(view: &Option<Value>, out: &mut Vec<u8>) -> Result<(), AllocError>
-    ensures { OnOk result (out.new.items ≡ out.old.items ++ view_text view.now) }
+    ensures ok { OnOk result (out.new.items ≡ out.old.items ++ view_text view.now) }
+    ensures kept { OnErr result (Extends out.old.items out.new.items) }
 {
     match view {
         None => out.extend_from_slice(b"null"),
@@ -179,8 +244,10 @@ fn print_view(view: &Option<Value>, out: &mut Vec<u8>) -> Result<(), AllocError>
 }
 
 // The views, with a comma before each.
+#[tactic(auto, using(crate::proofs::Kept::kept))]
 fn print_further_views(views: &[Value], out: &mut Vec<u8>) -> Result<(), AllocError>
-    ensures { OnOk result (out.new.items ≡ out.old.items ++ flat_map (λ view. 44 ∷ text_of (tree view)) views.now) }
+    ensures ok { OnOk result (out.new.items ≡ out.old.items ++ flat_map (λ view. 44 ∷ text_of (tree view)) views.now) }
+    ensures kept { OnErr result (Extends out.old.items out.new.items) }
 {
     for view in views {
         out.push(b',')?;
@@ -189,8 +256,10 @@ fn print_further_views(views: &[Value], out: &mut Vec<u8>) -> Result<(), AllocEr
     Ok(())
 }
 
+#[tactic(auto, using(crate::proofs::Kept::kept))]
 fn print_views(views: &[Value], out: &mut Vec<u8>) -> Result<(), AllocError>
-    ensures { OnOk result (out.new.items ≡ out.old.items ++ with_commas (λ view. text_of (tree view)) views.now) }
+    ensures ok { OnOk result (out.new.items ≡ out.old.items ++ with_commas (λ view. text_of (tree view)) views.now) }
+    ensures kept { OnErr result (Extends out.old.items out.new.items) }
 {
     match views {
         [] => Ok(()),
@@ -201,8 +270,10 @@ fn print_views(views: &[Value], out: &mut Vec<u8>) -> Result<(), AllocError>
     }
 }
 
+#[tactic(auto, using(crate::proofs::Kept::kept))]
 fn print_state(state: &Option<Text>, out: &mut Vec<u8>) -> Result<(), AllocError>
-    ensures { OnOk result (out.new.items ≡ out.old.items ++ page_text state.now) }
+    ensures ok { OnOk result (out.new.items ≡ out.old.items ++ page_text state.now) }
+    ensures kept { OnErr result (Extends out.old.items out.new.items) }
 {
     match state {
         None => out.extend_from_slice(b"null"),
@@ -210,8 +281,10 @@ fn print_state(state: &Option<Text>, out: &mut Vec<u8>) -> Result<(), AllocError
     }
 }
 
+#[tactic(auto, using(crate::proofs::Kept::kept))]
 fn print_page(views: &[Value], state: &Option<Text>, out: &mut Vec<u8>) -> Result<(), AllocError>
-    ensures { OnOk result (out.new.items ≡ out.old.items ++ listed_text views.now state.now) }
+    ensures ok { OnOk result (out.new.items ≡ out.old.items ++ listed_text views.now state.now) }
+    ensures kept { OnErr result (Extends out.old.items out.new.items) }
 {
     out.extend_from_slice(b"{\"documents\":[")?;
     print_views(views, out)?;
@@ -221,8 +294,10 @@ fn print_page(views: &[Value], state: &Option<Text>, out: &mut Vec<u8>) -> Resul
     Ok(())
 }
 
+#[tactic(auto, using(crate::proofs::Kept::kept))]
 fn print_listed(views: &[Value], state: &Option<Text>, out: &mut Vec<u8>) -> Result<(), AllocError>
-    ensures { OnOk result (out.new.items ≡ out.old.items ++ (codes "{\"data\":" ++ listed_text views.now state.now ++ codes "}")) }
+    ensures ok { OnOk result (out.new.items ≡ out.old.items ++ (codes "{\"data\":" ++ listed_text views.now state.now ++ codes "}")) }
+    ensures kept { OnErr result (Extends out.old.items out.new.items) }
 {
     out.extend_from_slice(b"{\"data\":")?;
     print_page(views, state, out)?;
@@ -230,17 +305,10 @@ fn print_listed(views: &[Value], state: &Option<Text>, out: &mut Vec<u8>) -> Res
     Ok(())
 }
 
-fn print_more(more: bool, out: &mut Vec<u8>) -> Result<(), AllocError>
-    ensures { OnOk result (out.new.items ≡ out.old.items ++ more_text more) }
-{
-    if more {
-        out.extend_from_slice(b",\"moreData\":true")?;
-    }
-    Ok(())
-}
-
+#[tactic(auto, using(crate::proofs::Kept::kept))]
 fn print_insertion(ids: &[DocId], out: &mut Vec<u8>) -> Result<(), AllocError>
-    ensures { OnOk result (out.new.items ≡ out.old.items ++ (codes "{\"status\":" ++ inserted_text ids.now ++ codes "}")) }
+    ensures ok { OnOk result (out.new.items ≡ out.old.items ++ (codes "{\"status\":" ++ inserted_text ids.now ++ codes "}")) }
+    ensures kept { OnErr result (Extends out.old.items out.new.items) }
 {
     out.extend_from_slice(b"{\"status\":")?;
     print_inserted(ids, out)?;
@@ -248,16 +316,20 @@ fn print_insertion(ids: &[DocId], out: &mut Vec<u8>) -> Result<(), AllocError>
     Ok(())
 }
 
+#[tactic(auto, using(crate::proofs::Kept::kept))]
 fn print_found(view: &Option<Value>, out: &mut Vec<u8>) -> Result<(), AllocError>
-    ensures { OnOk result (out.new.items ≡ out.old.items ++ (codes "{\"data\":{\"document\":" ++ view_text view.now ++ codes "}}")) }
+    ensures ok { OnOk result (out.new.items ≡ out.old.items ++ (codes "{\"data\":{\"document\":" ++ view_text view.now ++ codes "}}")) }
+    ensures kept { OnErr result (Extends out.old.items out.new.items) }
 {
     out.extend_from_slice(b"{\"data\":{\"document\":")?;
     print_view(view, out)?;
     out.extend_from_slice(b"}}")
 }
 
+#[tactic(auto, using(crate::proofs::Kept::kept))]
 fn print_count(count: u64, more: bool, out: &mut Vec<u8>) -> Result<(), AllocError>
-    ensures { OnOk result (out.new.items ≡ out.old.items ++ (codes "{\"status\":{\"count\":" ++ decimal count ++ more_text more ++ codes "}}")) }
+    ensures ok { OnOk result (out.new.items ≡ out.old.items ++ (codes "{\"status\":{\"count\":" ++ decimal count ++ more_text more ++ codes "}}")) }
+    ensures kept { OnErr result (Extends out.old.items out.new.items) }
 {
     out.extend_from_slice(b"{\"status\":{\"count\":")?;
     print_decimal(count, out)?;
@@ -265,80 +337,89 @@ fn print_count(count: u64, more: bool, out: &mut Vec<u8>) -> Result<(), AllocErr
     out.extend_from_slice(b"}}")
 }
 
-fn print_update(matched: u64, modified: u64, out: &mut Vec<u8>) -> Result<(), AllocError>
-    ensures { OnOk result (out.new.items ≡ out.old.items ++ (codes "{\"status\":" ++ updated_text matched modified ++ codes "}")) }
+#[tactic(auto, using(crate::proofs::Kept::kept))]
+fn print_update(
+    matched: u64,
+    modified: u64,
+    state: &Option<Text>,
+    out: &mut Vec<u8>,
+) -> Result<(), AllocError>
+    ensures ok { OnOk result (out.new.items ≡ out.old.items ++ (codes "{\"status\":" ++ updated_text matched modified state.now ++ codes "}")) }
+    ensures kept { OnErr result (Extends out.old.items out.new.items) }
 {
     out.extend_from_slice(b"{\"status\":")?;
-    print_updated(matched, modified, out)?;
+    print_updated(matched, modified, state, out)?;
     out.push(b'}')?;
     Ok(())
 }
 
+#[tactic(auto, using(crate::proofs::Kept::kept))]
+fn print_deletion(deleted: u64, more: bool, out: &mut Vec<u8>) -> Result<(), AllocError>
+    ensures ok { OnOk result (out.new.items ≡ out.old.items ++ (codes "{\"status\":" ++ deleted_text deleted more ++ codes "}")) }
+    ensures kept { OnErr result (Extends out.old.items out.new.items) }
+{
+    out.extend_from_slice(b"{\"status\":")?;
+    print_deleted(deleted, more, out)?;
+    out.push(b'}')?;
+    Ok(())
+}
+
+#[tactic(auto, using(crate::proofs::Kept::kept))]
 fn print_refused(
     errors: &[ErrorItem],
     so_far: &Option<SoFar>,
     out: &mut Vec<u8>,
 ) -> Result<(), AllocError>
-    ensures { OnOk result (out.new.items ≡ out.old.items ++ (status_text so_far.now ++ errors_text errors.now)) }
+    ensures ok { OnOk result (out.new.items ≡ out.old.items ++ (status_text so_far.now ++ errors_text errors.now)) }
+    ensures kept { OnErr result (Extends out.old.items out.new.items) }
 {
     print_status(so_far, out)?;
     print_errors(errors, out)
 }
 
+#[tactic(auto, using(crate::proofs::Kept::kept))]
 fn print_no_memory(accepted: u64, out: &mut Vec<u8>) -> Result<(), AllocError>
-    ensures { OnOk result (out.new.items ≡ out.old.items ++ (codes "{" ++ errors_text (out_of_memory accepted ∷ []))) }
+    ensures ok { OnOk result (out.new.items ≡ out.old.items ++ (codes "{" ++ errors_text (out_of_memory accepted ∷ []))) }
+    ensures kept { OnErr result (Extends out.old.items out.new.items) }
 {
     out.extend_from_slice(no_memory_reply(accepted).bytes())
 }
 
-// Behind what stands there. Where memory runs out, a part of the text may stand there too.
+#[tactic(auto, using(crate::proofs::Kept::kept))]
 fn print_behind(reply: &Reply, out: &mut Vec<u8>) -> Result<(), AllocError>
-    ensures { OnOk result (out.new.items ≡ out.old.items ++ reply_text reply.now) }
+    ensures ok { OnOk result (out.new.items ≡ out.old.items ++ reply_text reply.now) }
+    ensures kept { OnErr result (Extends out.old.items out.new.items) }
 {
     match reply {
         Reply::Inserted { ids } => print_insertion(ids.as_slice(), out),
         Reply::Found { view } => print_found(view, out),
         Reply::Listed { views, state } => print_listed(views.as_slice(), state, out),
         Reply::Counted { count, more } => print_count(*count, *more, out),
-        Reply::Updated { matched, modified } => print_update(*matched, *modified, out),
+        Reply::Updated { matched, modified } => print_update(*matched, *modified, &None, out),
+        Reply::UpdatedMany {
+            matched,
+            modified,
+            state,
+        } => print_update(*matched, *modified, state, out),
+        Reply::Deleted { deleted } => print_deletion(*deleted, false, out),
+        Reply::DeletedMany { deleted, more } => print_deletion(*deleted, *more, out),
         Reply::Refused { errors, so_far } => print_refused(errors.as_slice(), so_far, out),
         Reply::NoMemory { accepted } => print_no_memory(*accepted, out),
     }
 }
 
-// Into an empty buffer, which is empty again where memory runs out.
-fn print_alone(reply: &Reply, out: &mut Vec<u8>) -> Result<(), AllocError>
-    requires { out.old.items ≡ [] }
-    ensures ok { OnOk result (out.new.items ≡ reply_text reply.now) }
-    ensures err { OnErr result (out.new.items ≡ []) }
-{
-    match print_behind(reply, out) {
-        Ok(()) => Ok(()),
-        Err(_) => {
-            out.clear();
-            Err(AllocError)
-        }
-    }
-}
-
-/// Appends the reply's text. An empty `out` is printed into at once; where something stands in it, the text
-/// is printed apart and copied behind it.
-pub fn print_reply(alloc: Global, reply: &Reply, out: &mut Vec<u8>) -> Result<(), ReplyFault>
+/// Appends the reply's text, in place: where memory runs out, what was printed of it is cut off again.
+#[tactic(auto, using(crate::proofs::Kept::kept))]
+pub fn print_reply(_alloc: Global, reply: &Reply, out: &mut Vec<u8>) -> Result<(), ReplyFault>
     ensures ok { OnOk result (out.new.items ≡ out.old.items ++ reply_text reply.now) }
     ensures err { OnErr result (out.new.items ≡ out.old.items) }
 {
-    if out.is_empty() {
-        return match print_alone(reply, out) {
-            Ok(()) => Ok(()),
-            Err(_) => Err(ReplyFault::NoMemory),
-        };
-    }
-    let mut text = Vec::new(alloc);
-    match print_alone(reply, &mut text) {
-        Ok(()) => match out.extend_from_slice(text.as_slice()) {
-            Ok(()) => Ok(()),
-            Err(_) => Err(ReplyFault::NoMemory),
-        },
-        Err(_) => Err(ReplyFault::NoMemory),
+    let before = out.len();
+    match print_behind(reply, out) {
+        Ok(()) => Ok(()),
+        Err(_) => {
+            out.truncate(before);
+            Err(ReplyFault::NoMemory)
+        }
     }
 }

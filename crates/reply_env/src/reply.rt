@@ -1,6 +1,6 @@
 // Replies.
 ghost use Rattle.std.specs.Prelude.{IfOk};
-ghost use Rattle.reply_env.specs.Reply.{IsRefusal};
+ghost use Rattle.reply_env.specs.Reply.{IsRefusal, IsRefusalAfter};
 
 use crate::fault::ReplyFault;
 use json_tree::{DocId, Text, Value};
@@ -48,6 +48,22 @@ pub enum Reply {
         matched: u64,
         modified: u64,
     },
+    /// So many of the documents that were taken matched, and so many of them were changed; `state`, which names where
+    /// the next page begins, is there only where more matched.
+    UpdatedMany {
+        matched: u64,
+        modified: u64,
+        state: Option<Text>,
+    },
+    /// So many documents were deleted.
+    Deleted {
+        deleted: u64,
+    },
+    /// So many documents were deleted; `more` says that more matched.
+    DeletedMany {
+        deleted: u64,
+        more: bool,
+    },
     /// `so_far` is there exactly where the request made an accepted write.
     Refused {
         errors: Vec<ErrorItem>,
@@ -59,14 +75,22 @@ pub enum Reply {
     },
 }
 
+/// The reply that refuses by one error, behind what was written before.
+pub fn refusal_after(
+    alloc: Global,
+    so_far: Option<SoFar>,
+    error: ErrorItem,
+) -> Result<Reply, ReplyFault>
+    ensures { IfOk result (IsRefusalAfter so_far error) }
+{
+    let mut errors = Vec::new(alloc);
+    errors.push(error)?;
+    Ok(Reply::Refused { errors, so_far })
+}
+
 /// The reply that refuses by one error, where nothing was written before.
 pub fn refusal(alloc: Global, error: ErrorItem) -> Result<Reply, ReplyFault>
     ensures { IfOk result (IsRefusal error) }
 {
-    let mut errors = Vec::new(alloc);
-    errors.push(error)?;
-    Ok(Reply::Refused {
-        errors,
-        so_far: None,
-    })
+    refusal_after(alloc, None, error)
 }

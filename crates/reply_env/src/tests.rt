@@ -49,7 +49,7 @@ fn refused(alloc: Global, so_far: Option<SoFar>) -> Result<Reply, Fail> {
     })
 }
 
-const TEXTS: [&str; 17] = [
+const TEXTS: [&str; 24] = [
     r#"{"status":{"insertedIds":["a",2]}}"#,
     r#"{"data":{"document":{"_id":"a","n":1.5}}}"#,
     r#"{"data":{"document":null}}"#,
@@ -66,6 +66,13 @@ const TEXTS: [&str; 17] = [
     r#"{"data":{"documents":[{"_id":"a","n":1.5}],"nextPageState":"\u0001\"\\/é"}}"#,
     r#"{"data":{"documents":[{"_id":"a","n":1.5},{},{"_id":"a","n":1.5}],"nextPageState":null}}"#,
     r#"{"data":{"documents":[{"_id":"a","n":1.5},{},{"_id":"a","n":1.5}],"nextPageState":""}}"#,
+    r#"{"status":{"matchedCount":18446744073709551615,"modifiedCount":0}}"#,
+    r#"{"status":{"matchedCount":20,"modifiedCount":19,"moreData":true,"nextPageState":"AQAAAAAAAAAoAW9yZGVyLTEwMDE="}}"#,
+    r#"{"status":{"matchedCount":20,"modifiedCount":0,"moreData":true,"nextPageState":"\u0001\"\\/é"}}"#,
+    r#"{"status":{"deletedCount":1}}"#,
+    r#"{"status":{"deletedCount":0}}"#,
+    r#"{"status":{"deletedCount":20,"moreData":true}}"#,
+    r#"{"status":{"deletedCount":7},"errors":[{"message":"No version numbers are left","errorCode":"VERSIONS_SPENT"}]}"#,
     r#"{"errors":[{"message":"Out of memory after 18446744073709551615 accepted writes","errorCode":"OUT_OF_MEMORY"}]}"#,
 ];
 
@@ -79,11 +86,36 @@ fn listed(alloc: Global, documents: usize, state: Option<&str>) -> Result<Reply,
             views.push(document(alloc)?)?;
         }
     }
-    let state = match state {
-        Some(state) => Some(Text::of_str(alloc, state)?),
-        None => None,
-    };
-    Ok(Reply::Listed { views, state })
+    Ok(Reply::Listed {
+        views,
+        state: text_state(alloc, state)?,
+    })
+}
+
+fn text_state(alloc: Global, state: Option<&str>) -> Result<Option<Text>, Fail> {
+    match state {
+        Some(state) => Ok(Some(Text::of_str(alloc, state)?)),
+        None => Ok(None),
+    }
+}
+
+fn updated_page(
+    alloc: Global,
+    matched: u64,
+    modified: u64,
+    state: Option<&str>,
+) -> Result<Reply, Fail> {
+    Ok(Reply::UpdatedMany {
+        matched,
+        modified,
+        state: text_state(alloc, state)?,
+    })
+}
+
+// A refusal behind seven deletions.
+fn refused_after(alloc: Global) -> Result<Reply, Fail> {
+    let done = SoFar::Deleted { deleted: 7 };
+    Ok(refusal_after(alloc, Some(done), versions_spent(alloc)?)?)
 }
 
 // The replies of these texts.
@@ -122,6 +154,19 @@ fn reply_at(alloc: Global, place: usize) -> Result<Reply, Fail> {
         13 => listed(alloc, 1, Some("\u{1}\"\\/é")),
         14 => listed(alloc, 3, None),
         15 => listed(alloc, 3, Some("")),
+        16 => updated_page(alloc, u64::MAX, 0, None),
+        17 => updated_page(alloc, 20, 19, Some("AQAAAAAAAAAoAW9yZGVyLTEwMDE=")),
+        18 => updated_page(alloc, 20, 0, Some("\u{1}\"\\/é")),
+        19 => Ok(Reply::Deleted { deleted: 1 }),
+        20 => Ok(Reply::DeletedMany {
+            deleted: 0,
+            more: false,
+        }),
+        21 => Ok(Reply::DeletedMany {
+            deleted: 20,
+            more: true,
+        }),
+        22 => refused_after(alloc),
         _ => Ok(Reply::NoMemory { accepted: u64::MAX }),
     }
 }

@@ -66,7 +66,7 @@ module _ {K : Type 0} (failed : K → ℕ) where
   abbrev pub Looks : Option ℕ → Name → Tree → Stored K → Stored K → Looked → Type 0
   Looks by coll id old new (l.Row at row) =
       Stays old new at × IfSome row (λ v. IsShort (id_of v.doc))
-      × AtState old (λ s. Lives coll s × (version s coll id ≡ row))
+      × AtState old (λ s. Lives coll s × (version s coll id ≡ row) × IfSome row (λ v. id_of v.doc ≡ id))
   Looks by coll id old new (l.NoCollection at) = Stays old new at × AtState old (IsGone coll)
   Looks by coll id old new (l.Fault at before count) = Fails by old new at before count
   Looks by coll id old new l.NoMemory = new.journal ≡ old.journal

@@ -11,7 +11,7 @@ use crate::outcome::{Listed, Looked, Paged};
 use crate::store::Store;
 use col_keeper::{KeepFault, Keeper, Listing, Walked};
 use doc_paths::CollName;
-use json_tree::DocId;
+use json_tree::{DocId, ids_are_ordered};
 use shred_cols::Probe;
 use std::alloc::Global;
 
@@ -41,6 +41,8 @@ impl<K: Keeper> Store<K> {
         ensures work { K.called self.new.keeper ≤ K.called self.old.keeper + 1 }
         ensures faults { K.failed self.old.keeper ≤ K.failed self.new.keeper }
     {
+        ids_are_ordered();
+        id.value();
         let at = self.journal.len() as u64;
         if self.journal.reserve(1).is_err() {
             return Looked::NoMemory;

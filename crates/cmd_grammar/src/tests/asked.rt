@@ -25,7 +25,13 @@ const ASKED: &str = r##"{"find":{}} => 1 2 3, {"_id":1,"a":1,"b":"x","l":[1,2]},
 {"findOne":{}} => 1 2 3, {"_id":1,"a":1,"b":"x","l":[1,2]}
 {"findOne":{"sort":{"b":-1,"a":1},"projection":{"a":1}}} => 2 1 3, {"_id":1,"a":1}
 {"updateOne":{"update":{}}} => 1 2 3
-{"updateOne":{"sort":{"a":-1,"b":1},"update":{"$set":{"a":1}},"options":{}}} => 3 1 2"##;
+{"updateOne":{"sort":{"a":-1,"b":1},"update":{"$set":{"a":1}},"options":{}}} => 3 1 2
+{"updateMany":{"update":{}}} => none
+{"updateMany":{"update":{},"options":{"pageState":null}}} => none
+{"updateMany":{"filter":{"a":1},"update":{"$set":{"a":2}},"options":{"pageState":"AQAAAAAAAAAUAWQxOQ=="}}} => 20 "d19"
+{"updateMany":{"update":{},"options":{"pageState":"AX//////////AWQxOQ=="}}} => 9223372036854775807 "d19"
+{"deleteOne":{}} => 1 2 3
+{"deleteOne":{"filter":{"a":1},"sort":{"b":1,"a":-1}}} => 3 1 2"##;
 
 fn row(alloc: Global, tx: u64, text: &str) -> Result<Option<Row>, Fail> {
     let value = read_value(alloc, text.as_bytes())?;
@@ -113,6 +119,8 @@ fn asked(alloc: Global, command: Command) -> Result<String, Fail> {
             )?)
         }
         Command::UpdateOne { sort, .. } => order_of(alloc, &sort),
+        Command::DeleteOne { sort, .. } => order_of(alloc, &sort),
+        Command::UpdateMany { page, .. } => page_of(alloc, &page),
         _ => Ok(String::new(alloc)),
     }
 }

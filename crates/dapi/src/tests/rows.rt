@@ -235,6 +235,56 @@ run --collection=c | last=9223372036854775805
 ---
 "#;
 
+// Documents that are deleted, by filters and sorts; none that match; what isn't a deletion's; a failed call, no number left.
+pub(super) const DELETIONS: &str = r#"run --collection=c
+/v1/ks/c {"insertOne":{"document":{"_id":"job-1","rank":2}}}
+/v1/ks/c {"insertOne":{"document":{"_id":"job-2","rank":7}}}
+/v1/ks/c {"deleteOne":{"sort":{"rank":-1}}}
+/v1/ks/c {"find":{}}
+/v1/ks/c {"deleteOne":{"filter":{"_id":"job-2"}}}
+/v1/ks/c {"deleteOne":{"filter":{"_id":[1]}}}
+/v1/ks/c {"deleteOne":{"update":{}}}
+/v1/ks/c {"deleteOne":{"options":{}}}
+/v1/ks/zz {"deleteOne":{}}
+/v1/ks/c {"deleteOne":{}}
+/v1/ks/c {"deleteOne":{}}
+/v1/ks/c {"insertOne":{"document":{"_id":"job-1"}}}
+
+=> 0
+{"status":{"insertedIds":["job-1"]}}
+{"status":{"insertedIds":["job-2"]}}
+{"status":{"deletedCount":1}}
+{"data":{"documents":[{"_id":"job-1","rank":2}],"nextPageState":null}}
+{"status":{"deletedCount":0}}
+{"status":{"deletedCount":0}}
+{"errors":[{"message":"Command field invalid: update","errorCode":"COMMAND_FIELD_INVALID"}]}
+{"errors":[{"message":"Command field invalid: options","errorCode":"COMMAND_FIELD_INVALID"}]}
+{"errors":[{"message":"Collection zz does not exist","errorCode":"COLLECTION_NOT_EXIST"}]}
+{"status":{"deletedCount":1}}
+{"status":{"deletedCount":0}}
+{"status":{"insertedIds":["job-1"]}}
+---
+run --collection=c | keeper=5
+/v1/ks/c {"insertOne":{"document":{"_id":"a"}}}
+/v1/ks/c {"deleteOne":{}}
+/v1/ks/c {"deleteOne":{}}
+
+=> 0
+{"status":{"insertedIds":["a"]}}
+{"errors":[{"message":"Store fault: 0 then 1","errorCode":"STORE_FAULT"}]}
+{"status":{"deletedCount":1}}
+---
+run --collection=c | last=9223372036854775805
+/v1/ks/c {"insertOne":{"document":{"_id":"a"}}}
+/v1/ks/c {"deleteOne":{"filter":{"_id":"b"}}}
+/v1/ks/c {"deleteOne":{}}
+
+=> 0
+{"status":{"insertedIds":["a"]}}
+{"status":{"deletedCount":0}}
+{"errors":[{"message":"No version numbers are left","errorCode":"VERSIONS_SPENT"}]}
+"#;
+
 pub(super) const WORDS: &str = r#"
 => 1
 usage: dapi run|mix|gen N SEED|check|serve --listen=A [options]

@@ -11,6 +11,8 @@ use Rattle.cmd_tasks.specs.Looking.{ShowsRows, ShowsNothing, GoesUp, Refuses}
 use Rattle.cmd_tasks.specs.Pages.{up_of}
 use Rattle.cmd_tasks.specs.Trace.{probe_of}
 use Rattle.cmd_tasks.proofs.Glances.{shown_glances, shown_sees, gone_glances, gone_sees, fault_glances, fault_sees}
+use Rattle.cmd_tasks.proofs.Shorts.{shown_short, nothing_short, stopped_short}
+use Rattle.cmd_tasks.proofs.Fewness.{shown_few, nothing_few, stopped_few}
 use Rattle.cmd_tasks.proofs.glance.glance.Goals as goal
 
 pub rises-requires : goal.rises-requires
@@ -56,3 +58,21 @@ pub returns-in-Fault-clause-told : goal.returns-in-Fault-clause-told
 returns-in-Fault-clause-told g c = λ base told_base.
     let told = c.in-Fault.ensures.answers in
     fault_sees base c.args.coll.now c.args.by c.args.last.now _ _ (filter_tree c.args.wanted.now.filter) c.in-Fault.at c.in-Fault.before c.in-Fault.after c.faulted.result told.entered told.point c.faulted.ensures
+
+pub returns-in-Rows-clause-short : goal.returns-in-Rows-clause-short
+returns-in-Rows-clause-short g c = shown_short (filter_tree c.args.wanted.now.filter) c.in-Rows.at _ c.in-Rows.rows.items c.in-Rows.end c.shown.result c.in-Rows.ensures.answers.1.short c.shown.ensures
+
+pub returns-in-NoCollection-clause-short : goal.returns-in-NoCollection-clause-short
+returns-in-NoCollection-clause-short g c = nothing_short c.in-NoCollection.at _ (Refuses (errors.no_collection c.args.coll.now)) c.gone.result c.gone.ensures
+
+pub returns-in-Fault-clause-short : goal.returns-in-Fault-clause-short
+returns-in-Fault-clause-short g c = stopped_short _ (Refuses (errors.store_fault c.in-Fault.before c.in-Fault.after)) c.faulted.result c.faulted.ensures
+
+pub returns-in-Rows-clause-few : goal.returns-in-Rows-clause-few
+returns-in-Rows-clause-few g c = shown_few (filter_tree c.args.wanted.now.filter) c.in-Rows.at _ c.in-Rows.rows.items c.in-Rows.end c.shown.result c.in-Rows.ensures.answers.1.most c.shown.ensures
+
+pub returns-in-NoCollection-clause-few : goal.returns-in-NoCollection-clause-few
+returns-in-NoCollection-clause-few g c = nothing_few c.in-NoCollection.at _ (Refuses (errors.no_collection c.args.coll.now)) c.gone.result c.gone.ensures
+
+pub returns-in-Fault-clause-few : goal.returns-in-Fault-clause-few
+returns-in-Fault-clause-few g c = stopped_few _ (Refuses (errors.store_fault c.in-Fault.before c.in-Fault.after)) c.faulted.result c.faulted.ensures

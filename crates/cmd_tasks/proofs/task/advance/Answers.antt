@@ -79,3 +79,60 @@ returns-in-Changing-clause-steps g c = subst (λ (w : State). Steps c.args.by (g
 
 pub returns-in-Changing-clause-leads : goal.returns-in-Changing-clause-leads
 returns-in-Changing-clause-leads g c = subst (λ (w : State). Promises c.args.store.now.start c.args.coll.now c.args.by c.args.store.now.journal c.change.new.store.journal w c.change.result) (sym c.in-Changing.is) c.change.ensures.leads
+
+pub seek-requires-clause-deletion : goal.seek-requires-clause-deletion
+seek-requires-clause-deletion g c = let r = subst (λ (w : State). IsReady w) c.in-Seeking.is c.requires.ready in r.0
+
+pub seek-requires-clause-few : goal.seek-requires-clause-few
+seek-requires-clause-few g c = let r = subst (λ (w : State). IsReady w) c.in-Seeking.is c.requires.ready in r.1
+
+pub seek-requires-clause-short : goal.seek-requires-clause-short
+seek-requires-clause-short g c = let r = subst (λ (w : State). IsReady w) c.in-Seeking.is c.requires.ready in r.2
+
+pub delete-requires-clause-deletion : goal.delete-requires-clause-deletion
+delete-requires-clause-deletion g c = let r = subst (λ (w : State). IsReady w) c.in-Deleting.is c.requires.ready in r.0
+
+pub delete-requires-clause-short : goal.delete-requires-clause-short
+delete-requires-clause-short g c = let r = subst (λ (w : State). IsReady w) c.in-Deleting.is c.requires.ready in r.1
+
+pub returns-in-Seeking-clause-steps : goal.returns-in-Seeking-clause-steps
+returns-in-Seeking-clause-steps g c = subst (λ (w : State). Steps c.args.by (g.K.Keeper.failed c.args.store.now.keeper) (g.K.Keeper.failed c.seek.new.store.keeper) w c.args.store.now.journal c.seek.new.store.journal c.seek.result) (sym c.in-Seeking.is) c.seek.ensures.steps
+
+pub returns-in-Seeking-clause-leads : goal.returns-in-Seeking-clause-leads
+returns-in-Seeking-clause-leads g c = subst (λ (w : State). Promises c.args.store.now.start c.args.coll.now c.args.by c.args.store.now.journal c.seek.new.store.journal w c.seek.result) (sym c.in-Seeking.is) c.seek.ensures.leads
+
+pub returns-in-Deleting-clause-steps : goal.returns-in-Deleting-clause-steps
+returns-in-Deleting-clause-steps g c = subst (λ (w : State). Steps c.args.by (g.K.Keeper.failed c.args.store.now.keeper) (g.K.Keeper.failed c.delete.new.store.keeper) w c.args.store.now.journal c.delete.new.store.journal c.delete.result) (sym c.in-Deleting.is) c.delete.ensures.steps
+
+pub returns-in-Deleting-clause-leads : goal.returns-in-Deleting-clause-leads
+returns-in-Deleting-clause-leads g c = subst (λ (w : State). Promises c.args.store.now.start c.args.coll.now c.args.by c.args.store.now.journal c.delete.new.store.journal w c.delete.result) (sym c.in-Deleting.is) c.delete.ensures.leads
+
+pub list_more-requires-clause-ready : goal.list_more-requires-clause-ready
+list_more-requires-clause-ready g c = subst (λ (w : State). IsReady w) c.in-Paging.is c.requires.ready
+
+pub returns-in-Paging-clause-steps : goal.returns-in-Paging-clause-steps
+returns-in-Paging-clause-steps g c = subst (λ (w : State). Steps c.args.by (g.K.Keeper.failed c.args.store.now.keeper) (g.K.Keeper.failed c.list_more.new.store.keeper) w c.args.store.now.journal c.list_more.new.store.journal c.list_more.result) (sym c.in-Paging.is) c.list_more.ensures.steps
+
+pub returns-in-Paging-clause-leads : goal.returns-in-Paging-clause-leads
+returns-in-Paging-clause-leads g c = subst (λ (w : State). Promises c.args.store.now.start c.args.coll.now c.args.by c.args.store.now.journal c.list_more.new.store.journal w c.list_more.result) (sym c.in-Paging.is) c.list_more.ensures.leads
+
+pub try_one-requires-clause-ready : goal.try_one-requires-clause-ready
+try_one-requires-clause-ready g c = subst (λ (w : State). IsReady w) c.in-Trying.is c.requires.ready
+
+pub try_one-requires-clause-fits : goal.try_one-requires-clause-fits
+try_one-requires-clause-fits g c = subst (λ (w : State). ForSome c.args.store.now.start (λ b. Fits (replay b c.args.store.now.journal) c.args.coll.now w)) c.in-Trying.is c.requires.fits
+
+pub returns-in-Trying-clause-steps : goal.returns-in-Trying-clause-steps
+returns-in-Trying-clause-steps g c = subst (λ (w : State). Steps c.args.by (g.K.Keeper.failed c.args.store.now.keeper) (g.K.Keeper.failed c.try_one.new.store.keeper) w c.args.store.now.journal c.try_one.new.store.journal c.try_one.result) (sym c.in-Trying.is) c.try_one.ensures.steps
+
+pub returns-in-Trying-clause-leads : goal.returns-in-Trying-clause-leads
+returns-in-Trying-clause-leads g c = subst (λ (w : State). Promises c.args.store.now.start c.args.coll.now c.args.by c.args.store.now.journal c.try_one.new.store.journal w c.try_one.result) (sym c.in-Trying.is) c.try_one.ensures.leads
+
+pub look_again-requires-clause-ready : goal.look_again-requires-clause-ready
+look_again-requires-clause-ready g c = subst (λ (w : State). IsReady w) c.in-Retrying.is c.requires.ready
+
+pub returns-in-Retrying-clause-steps : goal.returns-in-Retrying-clause-steps
+returns-in-Retrying-clause-steps g c = subst (λ (w : State). Steps c.args.by (g.K.Keeper.failed c.args.store.now.keeper) (g.K.Keeper.failed c.look_again.new.store.keeper) w c.args.store.now.journal c.look_again.new.store.journal c.look_again.result) (sym c.in-Retrying.is) c.look_again.ensures.steps
+
+pub returns-in-Retrying-clause-leads : goal.returns-in-Retrying-clause-leads
+returns-in-Retrying-clause-leads g c = subst (λ (w : State). Promises c.args.store.now.start c.args.coll.now c.args.by c.args.store.now.journal c.look_again.new.store.journal w c.look_again.result) (sym c.in-Retrying.is) c.look_again.ensures.leads

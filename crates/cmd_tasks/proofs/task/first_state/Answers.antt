@@ -9,3 +9,9 @@ returns-in-FindOne c = subst (λ (z : Command). Begins c.args.moment (command_tr
 
 pub returns-in-Find : goal.returns-in-Find
 returns-in-Find c = subst (λ (z : Command). Begins c.args.moment (command_tree z) c.listing.result) (sym c.in-Find.is) (c.listing.ensures c.args.moment)
+
+pub returns-in-DeleteOne : goal.returns-in-DeleteOne
+returns-in-DeleteOne c = subst (λ (z : Command). Begins c.args.moment (command_tree z) c.seeking.result) (sym c.in-DeleteOne.is) (c.seeking.ensures c.args.moment)
+
+pub returns-in-DeleteMany : goal.returns-in-DeleteMany
+returns-in-DeleteMany c = subst (λ (z : Command). Begins c.args.moment (command_tree z) c.deleting_many.result) (sym c.in-DeleteMany.is) (c.deleting_many.ensures c.args.moment)

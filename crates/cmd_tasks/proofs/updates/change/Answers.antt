@@ -1,6 +1,5 @@
-use Rattle.std.proofs.Common.{rules, ◌≡◌, ◌∙◌, ◌++◌, ◌∷◌, [], ℕ, ℤ, SFits, w64, to_z-of_z, Option, Some, List, refl, sym, ap, subst, inl, inr}
+use Rattle.std.proofs.Common.{rules, ◌∙◌, ◌++◌, ◌∷◌, [], ℤ, SFits, w64, to_z-of_z, Some, List, refl, sym, subst, inl, inr}
 use Rattle.json_tree.specs.Tree.{Tree}
-use Rattle.shred_cols.specs.Row.{id_of}
 use Rattle.col_keeper.specs.Tables.{IsShort}
 use Rattle.reply_env.specs.Messages as errors
 use Rattle.update_ops.specs.Clauses.{Clause}

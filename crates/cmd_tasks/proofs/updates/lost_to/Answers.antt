@@ -1,4 +1,4 @@
-use Rattle.std.proofs.Common.{rules, ◌<◌, ℕ, length, refl, SFits, w64, to_z-of_z}
+use Rattle.std.proofs.Common.{rules, ◌<◌, length, refl, SFits, w64, to_z-of_z}
 use Rattle.cmd_tasks.specs.declared.work.State.TheVariants.{Choosing}
 use Rattle.cmd_tasks.proofs.updates.lost_to.Goals as goal
 

@@ -20,8 +20,8 @@ pub push_reserved-requires-in-Ends : goal.push_reserved-requires-in-Ends
 push_reserved-requires-in-Ends g c = room c.reserve.result _ _ c.if-is_err.ensures.negation c.reserve.ensures.ok
 
 pub returns-then-is_err-clause-done : goal.returns-then-is_err-clause-done
-returns-then-is_err-clause-done g c = λ d. done_so c.replace-state.new.dest _ (NoMemory 0) c.replace-state.ensures.after
-    (cut_so _ _ _ c.args.self.now c.reserve.new.self.items c.requires.stands refl c.reserve.ensures.items)
+returns-then-is_err-clause-done g c = λ d. done_so c.replace-state.new.dest _ (NoMemory c.accepted_by.result) c.replace-state.ensures.after
+    (cut_so _ _ _ c.args.self.now c.reserve.new.self.items c.accepted_by.result c.requires.stands refl c.reserve.ensures.items c.accepted_by.ensures)
 
 pub returns-in-Goes-clause-more : goal.returns-in-Goes-clause-more
 returns-in-Goes-clause-more g c = λ m. (
@@ -34,8 +34,8 @@ pub returns-in-Ends-clause-done : goal.returns-in-Ends-clause-done
 returns-in-Ends-clause-done g c = λ d. served_so _ _ _ _ _ c.args.self.now c.replace-state.result c.in-Ends.item c.in-Ends.reply c.push_reserved-in-Ends.new.self.items c.requires.stands (search rules) (search rules) c.in-Ends.ensures.steps c.in-Ends.ensures.leads
 
 pub returns-in-NoMemory-clause-done : goal.returns-in-NoMemory-clause-done
-returns-in-NoMemory-clause-done g c = λ d. done_so c.replace-state.new.dest _ (NoMemory 0) c.replace-state.ensures.after
-    (cut_so _ _ _ c.args.self.now c.reserve.new.self.items c.requires.stands c.in-NoMemory.ensures.steps c.reserve.ensures.items)
+returns-in-NoMemory-clause-done g c = λ d. done_so c.replace-state.new.dest _ (NoMemory c.accepted_by.result) c.replace-state.ensures.after
+    (cut_so _ _ _ c.args.self.now c.reserve.new.self.items c.accepted_by.result c.requires.stands c.in-NoMemory.ensures.steps c.reserve.ensures.items c.accepted_by.ensures)
 
 pub advance-requires-clause-fits : goal.advance-requires-clause-fits
 advance-requires-clause-fits g c = λ base told.

@@ -6,7 +6,7 @@ use Rattle.store_core.specs.Store.{Stored, next_of}
 use Rattle.store_core.specs.Outcomes.{fault_of}
 use Rattle.store_core.specs.declared.entry.Entry.{Entry}
 use Rattle.store_core.proofs.Histories.{told_at, fails_or_stays}
-use Rattle.store_core.proofs.Looking.{look_shows}
+use Rattle.store_core.proofs.Looking.{look_shows, look_keyed}
 use Rattle.store_core.proofs.store.Store.look_once.Goals as goal
 
 pub invariant_of-self-in-Err-Failed : goal.invariant_of-self-in-Err-Failed
@@ -23,5 +23,8 @@ pub returns-in-Ok-clause-answers : goal.returns-in-Ok-clause-answers
 returns-in-Ok-clause-answers g c = (
   (search rules, search rules),
   search rules,
-  rw (← c.self.view_is) (λ b e. look_shows _ _ _ (c.in-Ok.ensures.answers _ (told_at _ _ _ _ _ _ c.self.invariant.0 b e))),
+  rw (← c.self.view_is) (λ b e.
+      let told = told_at _ _ _ _ _ _ c.self.invariant.0 b e in
+      let shows = look_shows _ _ _ (c.in-Ok.ensures.answers _ told) in
+      (shows.0, shows.1, look_keyed _ _ _ _ _ c.value.ensures.id.0 c.ids_are_ordered.ensures.apart (c.faults-before.ensures.sound _ told).rows shows.1)),
 )

@@ -1,0 +1,328 @@
+// Many documents: what is taken next, and the reply where nothing is.
+ghost use Rattle.std.specs.Prelude.{◌≡◌, ◌⊎◌, ℕ, ◌+◌, ◌-◌, ◌^◌, ◌<◌, ◌≤◌, min, false, Option, Some, IfOk, IfErr, IfSome};
+ghost use Rattle.std.specs.Option.{option_map};
+ghost use Rattle.shred_cols.specs.Row.{id_of};
+ghost use Rattle.col_keeper.specs.Tables.{IsShort};
+ghost use Rattle.update_ops.specs.Apply.{Gives, apply};
+ghost use Rattle.update_ops.specs.declared.fault.UpdateFault.TheVariants as faults;
+ghost use Rattle.view_sort.specs.Page.{state_text};
+ghost use Rattle.view_sort.specs.declared.page.PageState.{PageState as Page};
+ghost use Rattle.reply_env.specs.declared.reply.ErrorItem.{ErrorItem as Error};
+ghost use Rattle.reply_env.specs.declared.reply.Reply.TheVariants as replies;
+ghost use Rattle.store_core.specs.Journal.{FitsId, new_doc};
+ghost use Rattle.store_core.specs.declared.entry.Change.{Change as Written};
+ghost use Rattle.store_core.specs.declared.entry.Change.TheVariants as changes;
+ghost use Rattle.cmd_tasks.specs.Part.{given_of};
+ghost use Rattle.cmd_tasks.specs.Looking.{Refuses};
+ghost use Rattle.cmd_tasks.specs.Doing.{update_to, change_of as change};
+ghost use Rattle.cmd_tasks.specs.Taking.{Standing, settle as settled_of};
+ghost use Rattle.cmd_tasks.specs.Turns.{so_far_of, state_behind as text_behind, done_reply};
+ghost use Rattle.cmd_tasks.specs.Many.{doing_of, IsMany, IsStand, IsStanding};
+ghost use Rattle.cmd_tasks.specs.Going.{IsCounted, tally, Meets, Settles, SettlesReady, GoesOnFrom, GoesReady, RefusesAfter};
+
+use crate::trace::Item;
+use crate::updates::declined;
+use crate::work::{Attempt, Doing, Many, Moved, Stand, State};
+use json_tree::{Doc, DocId, Text};
+use reply_env::{Reply, SoFar};
+use shred_cols::Row;
+use std::alloc::Global;
+use store_core::Change;
+use update_ops::{Applied, UpdateFault, Updates, ids_are_kept};
+use view_sort::{PageState, ViewFault};
+
+/// So many documents are counted at most.
+const MOST_COUNTED: u64 = 20;
+
+/// The change that writes this new document.
+fn update_of(
+    alloc: Global,
+    updates: &Updates,
+    moment: i64,
+    doc: Doc,
+) -> Result<Option<Change>, UpdateFault>
+    ensures ok { IfOk result (λ written. written ≡ Some (changes.Update updates.now moment doc)) }
+    ensures err { IfErr result (λ fault. fault ≡ faults.NoMemory) }
+{
+    match updates.try_copy(alloc) {
+        Ok(updates) => Ok(Some(Change::Update {
+            updates,
+            moment,
+            doc,
+        })),
+        Err(_) => Err(UpdateFault::NoMemory),
+    }
+}
+
+/// What updates write in the place of a document, if they change it.
+fn updated(
+    alloc: Global,
+    updates: &Updates,
+    moment: i64,
+    doc: &Doc,
+) -> Result<Option<Change>, UpdateFault>
+    ensures told { Gives (λ (written : Option Written). written) result (update_to updates.now moment doc.now (apply updates.now doc.now moment false)) }
+    ensures fits { IfOk result (λ written. IfSome written (λ c. FitsId (id_of doc.now) (new_doc c))) }
+{
+    ids_are_kept();
+    doc.value();
+    match updates.apply(alloc, doc, moment, false) {
+        Ok(
+            Applied {
+                doc: new,
+                changed: true,
+            },
+        ) => update_of(alloc, updates, moment, new),
+        Ok(
+            Applied {
+                doc: _,
+                changed: false,
+            },
+        ) => Ok(None),
+        Err(fault) => Err(fault),
+    }
+}
+
+/// What is written in the place of a document, if anything is.
+fn change_of(alloc: Global, doing: &Doing, doc: &Doc) -> Result<Option<Change>, UpdateFault>
+    ensures told { Gives (λ (written : Option Written). written) result (change (doing_of doing.now) doc.now) }
+    ensures fits { IfOk result (λ written. IfSome written (λ c. FitsId (id_of doc.now) (new_doc c))) }
+{
+    match doing {
+        Doing::Updates { updates, moment } => updated(alloc, updates, *moment, doc),
+        Doing::Deletes => Ok(Some(Change::Delete)),
+    }
+}
+
+/// One document is counted, of which so many were changed.
+pub(crate) fn counted(alloc: Global, stand: Stand, id: DocId, changed: u64) -> Stand
+    requires few { (stand.matched ≤ 20) × (stand.modified ≤ 20) × (changed ≤ 1) }
+    ensures { IsCounted stand id changed result }
+{
+    let Stand {
+        from,
+        is_whole,
+        queue,
+        lost: _,
+        matched,
+        modified,
+        last: _,
+    } = stand;
+    Stand {
+        from,
+        is_whole,
+        queue,
+        lost: Vec::new(alloc),
+        matched: matched + 1,
+        modified: modified + changed,
+        last: Some(id),
+    }
+}
+
+/// What a row's document asks for: no write, since it would stay as it is, or an attempt; or its change is refused, or
+/// memory was wanting.
+#[derive(Drop)]
+enum Met {
+    Unchanged(DocId),
+    Changed(Attempt),
+    Refused(UpdateFault),
+}
+
+fn meet(alloc: Global, doing: &Doing, row: &Row) -> Met
+    requires { IsShort (id_of row.now.doc) }
+    ensures { Meets (doing_of doing.now) row.now result }
+{
+    let Ok(id) = row.id().try_copy(alloc) else {
+        return Met::Refused(UpdateFault::NoMemory);
+    };
+    match change_of(alloc, doing, row.doc()) {
+        Ok(Some(change)) => Met::Changed(Attempt {
+            id,
+            read: row.tx(),
+            change,
+        }),
+        Ok(None) => Met::Unchanged(id),
+        Err(fault) => Met::Refused(fault),
+    }
+}
+
+/// Where the command stands, and what is taken next: an attempt, or nothing, since nothing is left or as many are
+/// counted as may be; or its change is refused, or memory was wanting.
+#[derive(Drop)]
+enum Settled {
+    Taken { stand: Stand, attempt: Attempt },
+    Untaken { stand: Stand },
+    Refused { stand: Stand, fault: UpdateFault },
+}
+
+/// Counts the documents that need no write, up to the first that does.
+fn settle(alloc: Global, doing: &Doing, begun: Stand) -> Settled
+    requires { IsStand begun }
+    ensures told { (st : Standing) → IsStanding begun st st.queue → st.again ≡ false → Settles (doing_of doing.now) (settled_of (doing_of doing.now) st) result }
+    ensures ready { SettlesReady begun result }
+{
+    let mut stand = begun;
+    'rows: while stand.matched < MOST_COUNTED {
+        let Some(row) = stand.queue.pop() else {
+            return Settled::Untaken { stand };
+        };
+        match meet(alloc, doing, &row) {
+            Met::Unchanged(id) => stand = counted(alloc, stand, id, 0),
+            Met::Changed(attempt) => return Settled::Taken { stand, attempt },
+            Met::Refused(fault) => return Settled::Refused { stand, fault },
+        }
+    }
+    Settled::Untaken { stand }
+}
+
+/// What the accepted writes did, if there were any.
+fn so_far(doing: &Doing, stand: &Stand) -> Option<SoFar>
+    ensures { result ≡ so_far_of (doing_of doing.now) (tally stand.now) }
+{
+    if stand.modified == 0 {
+        return None;
+    }
+    match doing {
+        Doing::Updates { .. } => Some(SoFar::Updated {
+            matched: stand.matched,
+            modified: stand.modified,
+        }),
+        Doing::Deletes => Some(SoFar::Deleted {
+            deleted: stand.modified,
+        }),
+    }
+}
+
+/// A reply that refuses, with what was written before.
+pub(crate) fn told_after(doing: &Doing, stand: &Stand, reply: Reply) -> Reply
+    ensures refuses { (st : Standing) (error : Error) → stand.now.matched ≡ st.matched → stand.now.modified ≡ st.modified → Refuses error reply → RefusesAfter (doing_of doing.now) st error result }
+    ensures cut { (n : ℕ) → reply ≡ replies.NoMemory n → result ≡ replies.NoMemory stand.now.modified }
+{
+    match reply {
+        Reply::Refused { errors, so_far: _ } => Reply::Refused {
+            errors,
+            so_far: so_far(doing, stand),
+        },
+        _ => Reply::NoMemory {
+            accepted: stand.modified,
+        },
+    }
+}
+
+/// The page state behind the last document, where so many were counted by this page.
+fn state_behind(
+    alloc: Global,
+    given: u64,
+    matched: u64,
+    last: Option<DocId>,
+) -> Result<Option<Text>, ViewFault>
+    requires { (given < 2 ^ 63) × (matched ≤ 20) }
+    ensures { IfOk result (λ state. state ≡ option_map (state_text (min (given + matched) (2 ^ 63 - 1))) last) }
+{
+    let Some(last) = last else {
+        return Ok(None);
+    };
+    let page = PageState {
+        given: (given + matched).min(i64::MAX as u64),
+        last,
+    };
+    let text = page.print(alloc)?;
+    Ok(Some(text))
+}
+
+/// The reply where many were updated and no more match, or some do.
+fn updated_many(alloc: Global, given: u64, stand: Stand, more: bool) -> Reply
+    requires { (given < 2 ^ 63) × (stand.matched ≤ 20) }
+    ensures { (page : Option Page) → given_of page ≡ given → (result ≡ replies.UpdatedMany stand.matched stand.modified (text_behind page (tally stand) more)) ⊎ (result ≡ replies.NoMemory stand.modified) }
+{
+    let Stand {
+        from: _,
+        is_whole: _,
+        queue: _,
+        lost: _,
+        matched,
+        modified,
+        last,
+    } = stand;
+    if !more {
+        return Reply::UpdatedMany {
+            matched,
+            modified,
+            state: None,
+        };
+    }
+    match state_behind(alloc, given, matched, last) {
+        Ok(state) => Reply::UpdatedMany {
+            matched,
+            modified,
+            state,
+        },
+        Err(_) => Reply::NoMemory { accepted: modified },
+    }
+}
+
+/// The reply where all is done.
+fn done(alloc: Global, many: Many, stand: Stand, more: bool) -> Reply
+    requires { IsMany many × IsStand stand }
+    ensures { (result ≡ done_reply (doing_of many.doing) many.page.value (tally stand) more) ⊎ (result ≡ replies.NoMemory stand.modified) }
+{
+    match many.doing {
+        Doing::Updates { .. } => updated_many(alloc, many.given, stand, more),
+        Doing::Deletes => Reply::DeletedMany {
+            deleted: stand.modified,
+            more,
+        },
+    }
+}
+
+/// Nothing is taken: the next page is to be listed, or all is done.
+fn untaken(alloc: Global, item: Item, many: Many, stand: Stand) -> Moved
+    requires { IsMany many × IsStand stand }
+    ensures told { (st : Standing) → Settles (doing_of many.doing) st (Settled.Untaken stand) → GoesOnFrom many item st result }
+    ensures ready { GoesReady many item stand result }
+{
+    if !stand.queue.is_empty() {
+        let reply = done(alloc, many, stand, true);
+        return Moved::Ends { item, reply };
+    }
+    if stand.is_whole {
+        let reply = done(alloc, many, stand, false);
+        return Moved::Ends { item, reply };
+    }
+    Moved::Goes {
+        item,
+        state: State::Paging { many, stand },
+    }
+}
+
+/// The change of the document that was to be taken is refused.
+fn refused(alloc: Global, item: Item, many: Many, stand: Stand, fault: UpdateFault) -> Moved
+    ensures told { (st : Standing) → Settles (doing_of many.doing) st (Settled.Refused stand fault) → GoesOnFrom many item st result }
+    ensures ready { (begun : Stand) → GoesReady many item begun result }
+{
+    let reply = told_after(&many.doing, &stand, declined(alloc, fault));
+    drop(many);
+    drop(stand);
+    Moved::Ends { item, reply }
+}
+
+/// Goes on behind an item, as far as nothing is to be asked of the store.
+pub(crate) fn go_on(alloc: Global, item: Item, many: Many, stand: Stand) -> Moved
+    requires many { IsMany many }
+    requires stand { IsStand stand }
+    ensures told { (st : Standing) → IsStanding stand st st.queue → st.again ≡ false → GoesOnFrom many item (settled_of (doing_of many.doing) st) result }
+    ensures ready { GoesReady many item stand result }
+{
+    match settle(alloc, &many.doing, stand) {
+        Settled::Taken { stand, attempt } => Moved::Goes {
+            item,
+            state: State::Trying {
+                many,
+                stand,
+                attempt,
+            },
+        },
+        Settled::Untaken { stand } => untaken(alloc, item, many, stand),
+        Settled::Refused { stand, fault } => refused(alloc, item, many, stand, fault),
+    }
+}
