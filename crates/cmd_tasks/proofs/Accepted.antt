@@ -34,7 +34,7 @@ settled_modified doing (s ∷ rest) st = elim (nat_lt st.matched 20 && is_unchan
 abbrev SomeWaits : List Shown → Type 0
 SomeWaits q = (first : Shown) × (rest : List Shown) × (q ≡ first ∷ rest)
 
-module _ (base : Base) (coll : Name) (k : ℕ) (moment : ℤ) (f : FilterTree) where
+module _ (base : Base) (coll : Name) (k : ℕ) (f : FilterTree) where
   replaced_modified : (s : Sight) (xs : List Found) (rest : List Shown) (st : Standing) → (replace base coll f s xs rest st).modified ≡ st.modified
   replaced_modified s [] rest st = refl
   replaced_modified s (x ∷ xs) rest st = refl
@@ -66,7 +66,7 @@ module _ (base : Base) (coll : Name) (k : ℕ) (moment : ℤ) (f : FilterTree) w
   wrote_on : (doing : Doing) (q : List Shown) (st : Standing) (s : Sight) → Follows base coll k f (turn_on doing q st) s → one_if_wrote s.item ≡ 1 → SomeWaits q
   wrote_on doing [] st s h one = elim st.is_whole as (λ b. Follows base coll k f (if b then is_done false else looks_on st.from) s → SomeWaits []) [
     | true ↦ λ h. absurd h
-    | false ↦ λ h. absurd (let none = looks_wrote base coll k moment f _ _ s.item h.0.1 in omega arith)
+    | false ↦ λ h. absurd (let none = looks_wrote base coll k f _ _ s.item h.0.1 in omega arith)
   ] h
   wrote_on doing (t ∷ rest) st s h one = (t, rest, refl)
 
@@ -89,15 +89,15 @@ module _ (base : Base) (coll : Name) (k : ℕ) (moment : ℤ) (f : FilterTree) w
       let b = item_modified doing s.item s st (wrote_waits doing st s h.1) in
       omega arith
 
-  updates_taken : (u : List Clause) (page : Option PageState) (sights : List Sight) → IsPartOf base coll k moment (update_many f u page) sights → AreTaken (updates u moment) (option_map (λ p. p.last) page) sights
+  updates_taken : (u : List Clause) (page : Option PageState) (sights : List Sight) → IsPartOf base coll k (update_many f u page) sights → AreTaken (updates u moment) (option_map (λ p. p.last) page) sights
   updates_taken u page [] h = tt
   updates_taken u page (s ∷ earlier) h = (updates_taken u page earlier h.0, h.2)
 
-  deletes_taken : (sights : List Sight) → IsPartOf base coll k moment (delete_many f) sights → AreTaken deletes None sights
+  deletes_taken : (sights : List Sight) → IsPartOf base coll k (delete_many f) sights → AreTaken deletes None sights
   deletes_taken [] h = tt
   deletes_taken (s ∷ earlier) h = (deletes_taken earlier h.0, h.2)
 
-  pub many_accepts : (doing : declared.Doing) (page : Option PageState) → IsDoneAt moment doing → MayPage doing page → (sights : List Sight) → IsPartOf base coll k moment (taking_for f page doing) sights
+  pub many_accepts : (doing : declared.Doing) (page : Option PageState) → IsDoneAt moment doing → MayPage doing page → (sights : List Sight) → IsPartOf base coll k (taking_for f page doing) sights
       → accepted sights ≡ (standing base coll f (doing_of doing) (option_map (λ p. p.last) page) sights).modified
   many_accepts (d.Updates u at) page is may sights h =
       subst (λ (z : ℤ). accepted sights ≡ (standing base coll f (updates u z) (option_map (λ p. p.last) page) sights).modified) (sym is) (taken_accepts (updates u moment) (option_map (λ p. p.last) page) sights (updates_taken u page sights h))

@@ -125,7 +125,7 @@ module _ (base : State) (H : List Entry) (coll : Name) (f : FilterTree) (shows :
     views : views_of p.reply ≡ map (λ x. view shows x.doc) (part p)
     state : state_of p.reply ≡ state_after [] (paging_of p) (part p)
 
-  is_listing : (k : ℕ) (moment : ℤ) (p : Paging) (seen : List Sight) → IsPartOf base coll k moment (find f [] shows p) seen → IsListing base coll f (from_of p) (keep_of p) seen
+  is_listing : (k : ℕ) (p : Paging) (seen : List Sight) → IsPartOf base coll k (find f [] shows p) seen → IsListing base coll f (from_of p) (keep_of p) seen
   is_listing k moment p [] h = tt
   is_listing k moment p (s ∷ earlier) h = (is_listing k moment p earlier h.0, h.1, h.2)
 

@@ -84,7 +84,7 @@ none_first_of : (xs : List Found) → first xs ≡ None → xs ≡ []
 none_first_of [] e = refl
 none_first_of (x ∷ xs) e = cc
 
-module _ (base : Base) (coll : Name) (k : ℕ) (moment : ℤ) (d : Deletion) (one : d.search.keep ≡ 1) (H' : List Entry) (earlier : List Sight) (p : Progress) (way : IsUnderWay base coll k moment (Seeking d p) earlier) where
+module _ (base : Base) (coll : Name) (k : ℕ) (d : Deletion) (one : d.search.keep ≡ 1) (H' : List Entry) (earlier : List Sight) (p : Progress) (way : IsUnderWay base coll k (Seeking d p) earlier) where
   abbrev f : FilterTree
   f = filter_tree d.search.wanted.filter
 
@@ -106,7 +106,7 @@ module _ (base : Base) (coll : Name) (k : ℕ) (moment : ℤ) (d : Deletion) (on
     facts : (lost_by item ≡ []) × (one_if_wrote item ≡ 0) × (writes item ≡ false)
     facts = looked_facts base coll f _ _ item next.1
 
-    part : IsPartOf base coll k moment (deleting d) (s ∷ earlier)
+    part : IsPartOf base coll k (deleting d) (s ∷ earlier)
     part = (way.0.0, way.0.1, match_none (chosen base coll k f sort earlier) _ _ way.1.1 next)
 
     round_is : round (s ∷ earlier) ≡ s ∷ round earlier
@@ -127,7 +127,7 @@ module _ (base : Base) (coll : Name) (k : ℕ) (moment : ℤ) (d : Deletion) (on
     chosen_is : chosen base coll k f sort (s ∷ earlier) ≡ first_of sort (s ∷ round earlier) (shown base coll f (s ∷ round earlier))
     chosen_is = ap (λ (z : List Sight). first_of sort z (shown base coll f z)) round_is
 
-    pub seek_more : (p' : Progress) → IsSearching base coll None d.search p' (s ∷ round earlier) → IsUnended base coll None d.search (s ∷ round earlier) → IsUnderWay base coll k moment (Seeking d p') (s ∷ earlier)
+    pub seek_more : (p' : Progress) → IsSearching base coll None d.search p' (s ∷ round earlier) → IsUnended base coll None d.search (s ∷ round earlier) → IsUnderWay base coll k (Seeking d p') (s ∷ earlier)
     seek_more p' searching unended = (
       (part, (accepted_is, few, match_none (chosen base coll k f sort (s ∷ earlier)) _ _ none (subst (GoesOn base coll f (bound sort 1)) (sym round_is) goes))),
       (subst (IsSearching base coll None d.search p') (sym round_is) searching, none, kept),
@@ -150,7 +150,7 @@ module _ (base : Base) (coll : Name) (k : ℕ) (moment : ℤ) (d : Deletion) (on
       told_first : chosen base coll k f sort (s ∷ earlier) ≡ first (in_order sort (shown base coll f (s ∷ round earlier)))
       told_first = chosen_is ∙ first_told base coll f sort (s ∷ round earlier) listed sortable
 
-      found_none : in_order sort (shown base coll f (s ∷ round earlier)) ≡ [] → Serves base coll k moment (deleting d) (s ∷ earlier) (reply.Deleted 0)
+      found_none : in_order sort (shown base coll f (s ∷ round earlier)) ≡ [] → Serves base coll k (deleting d) (s ∷ earlier) (reply.Deleted 0)
       found_none none = inl (
         part,
         inr (inr (
@@ -161,7 +161,7 @@ module _ (base : Base) (coll : Name) (k : ℕ) (moment : ℤ) (d : Deletion) (on
         )),
       )
 
-      picks : (v : Version) → option_map found_row (first p'.kept.items) ≡ Some (found_row v) → IsUnderWay base coll k moment (Deleting d v.tx (id_of v.doc)) (s ∷ earlier)
+      picks : (v : Version) → option_map found_row (first p'.kept.items) ≡ Some (found_row v) → IsUnderWay base coll k (Deleting d v.tx (id_of v.doc)) (s ∷ earlier)
       picks v is = (
         (part, (accepted_is, few, match_some (chosen base coll k f sort (s ∷ earlier)) (found_row v) _ _ (told_first ∙ (first_is ∙ is)) tt)),
         record {
@@ -174,15 +174,15 @@ module _ (base : Base) (coll : Name) (k : ℕ) (moment : ℤ) (d : Deletion) (on
         },
       )
 
-      pub seek_whole : (rows : List Version) (o : Moved) → p'.kept.items ≡ rows → Picks d item rows o → Leads base coll k moment H' (Seeking d p) earlier o
+      pub seek_whole : (rows : List Version) (o : Moved) → p'.kept.items ≡ rows → Picks d item rows o → Leads base coll k H' (Seeking d p) earlier o
       seek_whole (v ∷ more) o are c = ⊎_elim
-          (λ (e : o ≡ m.Goes item (Deleting d v.tx (id_of v.doc))). subst (Leads base coll k moment H' (Seeking d p) earlier) (sym e) (picks v (ap (λ (z : List Version). option_map found_row (first z)) are)))
-          (λ (e : o ≡ m.Ends item (reply.NoMemory 0)). subst (Leads base coll k moment H' (Seeking d p) earlier) (sym e) (inr (inr (inl part, ap reply.NoMemory (sym accepted_is))))) c
-      seek_whole [] o are c = subst (Leads base coll k moment H' (Seeking d p) earlier) (sym c) (found_none (none_first_of _ (first_is ∙ ap (λ (z : List Version). option_map found_row (first z)) are)))
+          (λ (e : o ≡ m.Goes item (Deleting d v.tx (id_of v.doc))). subst (Leads base coll k H' (Seeking d p) earlier) (sym e) (picks v (ap (λ (z : List Version). option_map found_row (first z)) are)))
+          (λ (e : o ≡ m.Ends item (reply.NoMemory 0)). subst (Leads base coll k H' (Seeking d p) earlier) (sym e) (inr (inr (inl part, ap reply.NoMemory (sym accepted_is))))) c
+      seek_whole [] o are c = subst (Leads base coll k H' (Seeking d p) earlier) (sym c) (found_none (none_first_of _ (first_is ∙ ap (λ (z : List Version). option_map found_row (first z)) are)))
 
     -- more are found than are sorted
-    pub seek_many : (r : Reply) → IsEnded base coll None d.search (s ∷ round earlier) → has_too_many base coll None d.search (s ∷ round earlier) ≡ true → Refuses errors.too_many_to_sort r → Serves base coll k moment (deleting d) (s ∷ earlier) r
-    seek_many r ended many refuses = answered base coll k moment (deleting d) (s ∷ earlier) r _ part accepted_is
+    pub seek_many : (r : Reply) → IsEnded base coll None d.search (s ∷ round earlier) → has_too_many base coll None d.search (s ∷ round earlier) ≡ true → Refuses errors.too_many_to_sort r → Serves base coll k (deleting d) (s ∷ earlier) r
+    seek_many r ended many refuses = answered base coll k (deleting d) (s ∷ earlier) r _ part accepted_is
         (λ t. inr (inr (
           accepted_is,
           few,
@@ -190,18 +190,18 @@ module _ (base : Base) (coll : Name) (k : ℕ) (moment : ℤ) (d : Deletion) (on
               (subst (λ (n : ℕ). IsListed base coll f (bound sort n) (s ∷ round earlier)) one ended, inl (many, t)),
         ))) refuses
 
-  pub seek_stopped : (item : Item) (r : Reply) → Seeks base coll None d.search k H' (round earlier) (sr.Stopped item r) → Serves base coll k moment (deleting d) (sight H' item ∷ earlier) r
+  pub seek_stopped : (item : Item) (r : Reply) → Seeks base coll None d.search k H' (round earlier) (sr.Stopped item r) → Serves base coll k (deleting d) (sight H' item ∷ earlier) r
   seek_stopped item r h = ⊎_elim
-      (λ stops. stopped_serves base coll k moment (deleting d) tt earlier (sight H' item) stops.0 r way.0
-      (stops_more base coll k _ (Marks base coll k moment (deleting d) earlier) (IsToWrite base coll k moment (deleting d) earlier) item (sight H' item) stops.0
+      (λ stops. stopped_serves base coll k (deleting d) tt earlier (sight H' item) stops.0 r way.0
+      (stops_more base coll k _ (Marks base coll k (deleting d) earlier) (IsToWrite base coll k (deleting d) earlier) item (sight H' item) stops.0
       (λ a t z. match_none (chosen base coll k f sort earlier) _ _ way.1.1 z) (not_some (chosen base coll k f sort earlier) way.1.1) stops.1) stops.2)
       (λ many. seek_many item many.0 r many.1 many.2 many.3)
       h
 
 -- ---- what the attempt means
 
-module _ (base : Base) (coll : Name) (k : ℕ) (moment : ℤ) (d : Deletion) (read : ℕ) (id : Tree) (H : List Entry) (trace : List Item) (placed : IsPlaced k H trace) (lawful : IsJournal base H) (apart : AreApart base.collections)
-    (way : IsUnderWay base coll k moment (Deleting d read id) (sights H trace)) where
+module _ (base : Base) (coll : Name) (k : ℕ) (d : Deletion) (read : ℕ) (id : Tree) (H : List Entry) (trace : List Item) (placed : IsPlaced k H trace) (lawful : IsJournal base H) (apart : AreApart base.collections)
+    (way : IsUnderWay base coll k (Deleting d read id) (sights H trace)) where
   abbrev g : FilterTree
   g = filter_tree d.search.wanted.filter
 
@@ -214,10 +214,10 @@ module _ (base : Base) (coll : Name) (k : ℕ) (moment : ℤ) (d : Deletion) (re
   abbrev before : List Sight
   before = sights H trace
 
-  deletes : (s : Sight) → (IsWon base coll k picked.x Delete s ⊎ IsLost base coll k picked.seen.look picked.x s) → IsPartOf base coll k moment (deleting d) (s ∷ before)
+  deletes : (s : Sight) → (IsWon base coll k picked.x Delete s ⊎ IsLost base coll k picked.seen.look picked.x s) → IsPartOf base coll k (deleting d) (s ∷ before)
   deletes s attempt = (way.0.0, way.0.1, match_some (chosen base coll k g by before) picked.x _ _ picked.is (picked.seen.look, picked.seen.among, picked.seen.shows, attempt))
 
-  pub delete_written : GivenOnce → IsOld base → (H' : List Entry) (at tx : ℕ) → H' ≡ H ++ Changed k coll id Delete (Some read) tx ∷ [] → at ≡ length H → number_at (replay base H) coll id ≡ Some read → Serves base coll k moment (deleting d) (sight H' (Wrote at) ∷ before) (reply.Deleted 1)
+  pub delete_written : GivenOnce → IsOld base → (H' : List Entry) (at tx : ℕ) → H' ≡ H ++ Changed k coll id Delete (Some read) tx ∷ [] → at ≡ length H → number_at (replay base H) coll id ≡ Some read → Serves base coll k (deleting d) (sight H' (Wrote at) ∷ before) (reply.Deleted 1)
   delete_written once old H' at tx longer here stands =
       let e : Entry = Changed k coll id Delete (Some read) tx in
       let past = saw_before H H' e at longer here in
@@ -231,7 +231,7 @@ module _ (base : Base) (coll : Name) (k : ℕ) (moment : ℤ) (d : Deletion) (re
       inl (deletes (sight H' (Wrote at)) (inl won), inl ((let a = way.0.1.0 in omega arith), refl))
 
   pub deletion_loses : Touched → (H' : List Entry) (at : ℕ) (found : Option ℕ) (o : Moved) → H' ≡ H → at ≡ length H → found ≢ Some read → number_at (replay base H) coll id ≡ found → LosesDeletion at read found d o
-      → Leads base coll k moment H' (Deleting d read id) before o
+      → Leads base coll k H' (Deleting d read id) before o
   deletion_loses touched H' at found o same here other stands t = go o t
     where
       s : Sight
@@ -252,7 +252,7 @@ module _ (base : Base) (coll : Name) (k : ℕ) (moment : ℤ) (d : Deletion) (re
         between = ap (λ (l : List Entry). list_any (comes_between coll k picked.x.id) (drop (length picked.seen.look.past) l)) past ∙ came_between base coll k g H trace placed picked.x picked.seen touched lawful apart (λ e. other (sym there ∙ (e ∙ ap (λ (n : ℕ). Some n) picked.number)));
       }
 
-      part : IsPartOf base coll k moment (deleting d) (s ∷ before)
+      part : IsPartOf base coll k (deleting d) (s ∷ before)
       part = deletes s (inr is_lost)
 
       still_none : accepted (s ∷ before) ≡ 0
@@ -267,12 +267,12 @@ module _ (base : Base) (coll : Name) (k : ℕ) (moment : ℤ) (d : Deletion) (re
       as_lost : lost_with d read found ≡ reverse (losses (s ∷ before))
       as_lost = sym (reverse-reverse (lost_with d read found)) ∙ ap reverse lost_more
 
-      go : (o' : Moved) → LosesDeletion at read found d o' → Leads base coll k moment H' (Deleting d read id) before o'
-      go (m.Goes i w) t' = subst (λ (z : Item × State). Leads base coll k moment H' (Deleting d read id) before (m.Goes z.0 z.1)) (λ j. (sym t'.3 j, sym t'.4.2 j)) (
+      go : (o' : Moved) → LosesDeletion at read found d o' → Leads base coll k H' (Deleting d read id) before o'
+      go (m.Goes i w) t' = subst (λ (z : Item × State). Leads base coll k H' (Deleting d read id) before (m.Goes z.0 z.1)) (λ j. (sym t'.3 j, sym t'.4.2 j)) (
         (part, (still_none, (let a = size in let b = ap length t'.1 in let c = t'.2 in omega arith), match_none (chosen base coll k g by (s ∷ before)) _ _ (none_first by) tt)),
         (fresh_searching base coll None d.search t'.4.0 t'.4.1, none_first by, ap reverse t'.1 ∙ lost_more),
       )
-      go (m.Ends i r) t' = subst (λ (z : Item). Leads base coll k moment H' (Deleting d read id) before (m.Ends z r)) (sym t'.0) (⊎_elim
+      go (m.Ends i r) t' = subst (λ (z : Item). Leads base coll k H' (Deleting d read id) before (m.Ends z r)) (sym t'.0) (⊎_elim
           (λ (four : (4 ≤ length (lost_with d read found)) × Refuses (errors.lost_writes (lost_with d read found)) r). ⊎_elim
           (λ (told : IsRefusal (errors.lost_writes (lost_with d read found)) r). inl (part, inr (inl ((let a = size in let b = four.0 in let c = way.0.1.1 in omega arith), subst (λ (l : List Loss). IsRefusal (errors.lost_writes l) r) as_lost told))))
           (λ (cut : r ≡ reply.NoMemory 0). inr (inr (inl part, cut ∙ ap reply.NoMemory (sym still_none)))) four.1)
@@ -280,17 +280,17 @@ module _ (base : Base) (coll : Name) (k : ℕ) (moment : ℤ) (d : Deletion) (re
       go m.NoMemory t' = absurd t'
 
   pub delete_marked : (H' : List Entry) (at : ℕ) (after up : Tree) (error : ErrorItem) (o : Moved) → after ≡ id → up ≡ id → H' ≡ H → at ≡ length H → IsNoWrite coll (replay base H) error
-      → EndsMarked at (Some after) (Some up) (Refuses error) o → Leads base coll k moment H' (Deleting d read id) before o
+      → EndsMarked at (Some after) (Some up) (Refuses error) o → Leads base coll k H' (Deleting d read id) before o
   delete_marked H' at after up error (m.Goes i w) after_is up_is same here cause is = absurd is
-  delete_marked H' at after up error (m.Ends i r) after_is up_is same here cause is = stopped_serves base coll k moment (deleting d) tt before (sight H' i) error r way.0
-      (mark_stops base coll k (Marks base coll k moment (deleting d) before) (IsToWrite base coll k moment (deleting d) before) H H' at (Some after) (Some up) i error same here is.0
+  delete_marked H' at after up error (m.Ends i r) after_is up_is same here cause is = stopped_serves base coll k (deleting d) tt before (sight H' i) error r way.0
+      (mark_stops base coll k (Marks base coll k (deleting d) before) (IsToWrite base coll k (deleting d) before) H H' at (Some after) (Some up) i error same here is.0
       (match_some (chosen base coll k g by before) picked.x _ _ picked.is (ap (λ (t : Tree). Some t) (after_is ∙ sym picked.same_id), ap (λ (t : Tree). Some t) (up_is ∙ sym picked.same_id)))
       (some_is (chosen base coll k g by before) picked.x picked.is) cause) is.1
   delete_marked H' at after up error m.NoMemory after_is up_is same here cause is = absurd is
 
   pub delete_failed : (H' : List Entry) (at before_count count : ℕ) (o : Moved) → H' ≡ H ++ Failed k before_count count ∷ [] → at ≡ length H
-      → EndsSo (Faulted at before_count count) (Refuses (errors.store_fault before_count count)) o → Leads base coll k moment H' (Deleting d read id) before o
+      → EndsSo (Faulted at before_count count) (Refuses (errors.store_fault before_count count)) o → Leads base coll k H' (Deleting d read id) before o
   delete_failed H' at low high (m.Goes i w) longer here is = absurd is
   delete_failed H' at low high (m.Ends i r) longer here is =
-      subst (λ (z : Item). Serves base coll k moment (deleting d) (sight H' z ∷ before) r) (sym is.0) (failed_serves base coll k moment (deleting d) tt before H H' at low high r way.0 longer here is.1)
+      subst (λ (z : Item). Serves base coll k (deleting d) (sight H' z ∷ before) r) (sym is.0) (failed_serves base coll k (deleting d) tt before H H' at low high r way.0 longer here is.1)
   delete_failed H' at low high m.NoMemory longer here is = absurd is

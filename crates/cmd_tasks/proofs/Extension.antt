@@ -53,9 +53,9 @@ sights_more H more [] h = refl
 sights_more H more (i ∷ is) h = λ j. sight_more H more i h.0 j ∷ sights_more H more is h.1 j
 
 -- what was served stays served
-pub served_more : (base : State) (H more : List Entry) (coll : Name) (k : ℕ) (moment : ℤ) (c : CommandTree) (trace : List Item) (reply : Reply)
-    → AreWithin (length H) trace → IsServed base H coll k moment c trace reply → IsServed base (H ++ more) coll k moment c trace reply
-served_more base H more coll k moment c trace reply w h = subst (λ (s : List Sight). Serves base coll k moment c (reverse s) reply) (sym (sights_more H more trace w)) h
+pub served_more : (base : State) (H more : List Entry) (coll : Name) (k : ℕ) (c : CommandTree) (trace : List Item) (reply : Reply)
+    → AreWithin (length H) trace → IsServed base H coll k c trace reply → IsServed base (H ++ more) coll k c trace reply
+served_more base H more coll k c trace reply w h = subst (λ (s : List Sight). Serves base coll k c (reverse s) reply) (sym (sights_more H more trace w)) h
 
 pub within_longer : (n m : ℕ) (is : List Item) → n ≤ m → AreWithin n is → AreWithin m is
 within_longer n m [] le h = tt
@@ -75,8 +75,8 @@ within_rest : (n : ℕ) (xs ys : List Item) → AreWithin n (xs ++ ys) → AreWi
 within_rest n [] ys h = h
 within_rest n (x ∷ xs) ys h = within_rest n xs ys h.1
 
-pub answered_more : (base : State) (H more : List Entry) (k : ℕ) (moment : ℤ) (asking : Asking) (trace : List Item) (reply : Reply) → AreWithin (length H) trace → Answered base H k moment asking trace reply → Answered base (H ++ more) k moment asking trace reply
-answered_more base H more k moment (asks_for coll c) trace reply w h = served_more base H more coll k moment c trace reply w h
+pub answered_more : (base : State) (H more : List Entry) (k : ℕ) (asking : Asking) (trace : List Item) (reply : Reply) → AreWithin (length H) trace → Answered base H k moment asking trace reply → Answered base (H ++ more) k moment asking trace reply
+answered_more base H more k moment (asks_for coll c) trace reply w h = served_more base H more coll k c trace reply w h
 answered_more base H more k moment (is_refused error) trace reply w h = h
 answered_more base H more k moment is_unread trace reply w h = h
 

@@ -77,19 +77,19 @@ settled_again doing (s ∷ rest) st = elim (nat_lt st.matched 20 && is_unchanged
 
 -- ---- what the command says, by where it stands
 
-module _ (base : Base) (coll : Name) (k : ℕ) (moment : ℤ) (f : FilterTree) where
+module _ (base : Base) (coll : Name) (k : ℕ) (f : FilterTree) where
   abbrev pub stands_for : Doing → Option PageState → List Sight → Standing
   stands_for doing page sights = standing base coll f doing (option_map (λ p. p.last) page) sights
 
   pub record Reads (c : CommandTree) (doing : Doing) (page : Option PageState) : Type 0 where
-    pub opens : (sights : List Sight) → IsOn (turn doing (stands_for doing page sights)) → IsOpen base coll k moment c sights
-    pub follows : (sights : List Sight) (s : Sight) → Follows base coll k f (turn doing (stands_for doing page sights)) s → Next base coll k moment c sights s
-    pub ends : (sights : List Sight) (reply : Reply) → Ends doing page (stands_for doing page sights) (turn doing (stands_for doing page sights)) reply → Answers base coll k moment c sights reply
-    pub marks : (sights : List Sight) (after up : Option Tree) → MarksTurn (turn doing (stands_for doing page sights)) after up → Marks base coll k moment c sights after up
-    pub writes : (sights : List Sight) → IsWrite (turn doing (stands_for doing page sights)) → IsToWrite base coll k moment c sights
-    pub to_write : (sights : List Sight) → IsToWrite base coll k moment c sights → IsWrite (turn doing (stands_for doing page sights))
-    pub counts : (sights : List Sight) → IsPartOf base coll k moment c sights → accepted sights ≡ (stands_for doing page sights).modified
-    pub done : (sights : List Sight) → done_by base coll k moment c sights ≡ so_far_of doing (stands_for doing page sights)
+    pub opens : (sights : List Sight) → IsOn (turn doing (stands_for doing page sights)) → IsOpen base coll k c sights
+    pub follows : (sights : List Sight) (s : Sight) → Follows base coll k f (turn doing (stands_for doing page sights)) s → Next base coll k c sights s
+    pub ends : (sights : List Sight) (reply : Reply) → Ends doing page (stands_for doing page sights) (turn doing (stands_for doing page sights)) reply → Answers base coll k c sights reply
+    pub marks : (sights : List Sight) (after up : Option Tree) → MarksTurn (turn doing (stands_for doing page sights)) after up → Marks base coll k c sights after up
+    pub writes : (sights : List Sight) → IsWrite (turn doing (stands_for doing page sights)) → IsToWrite base coll k c sights
+    pub to_write : (sights : List Sight) → IsToWrite base coll k c sights → IsWrite (turn doing (stands_for doing page sights))
+    pub counts : (sights : List Sight) → IsPartOf base coll k c sights → accepted sights ≡ (stands_for doing page sights).modified
+    pub done : (sights : List Sight) → done_by base coll k c sights ≡ so_far_of doing (stands_for doing page sights)
 
   pub reads : (doing : declared_doing.Doing) (page : Option PageState) → IsDoneAt moment doing → MayPage doing page → Reads (taking_for f page doing) (doing_of doing) page
   reads (d.Updates u at) page done may = subst (λ (n : ℤ). Reads (update_many f u page) (updates u n) page) (sym done) (record {
@@ -99,7 +99,7 @@ module _ (base : Base) (coll : Name) (k : ℕ) (moment : ℤ) (f : FilterTree) w
     marks = λ sights after up h. h;
     writes = λ sights h. h;
     to_write = λ sights h. h;
-    counts = many_accepts base coll k moment f (d.Updates u moment) page refl tt;
+    counts = many_accepts base coll k f (d.Updates u moment) page refl tt;
     done = λ sights. refl;
   })
   reads d.Deletes page done may = subst (λ (p : Option PageState). Reads (delete_many f) deletes p) (sym may) (record {
@@ -109,25 +109,25 @@ module _ (base : Base) (coll : Name) (k : ℕ) (moment : ℤ) (f : FilterTree) w
     marks = λ sights after up h. h;
     writes = λ sights h. h;
     to_write = λ sights h. h;
-    counts = many_accepts base coll k moment f d.Deletes None tt refl;
+    counts = many_accepts base coll k f d.Deletes None tt refl;
     done = λ sights. refl;
   })
 
   -- the command stops at an item, and tells what was written before, or memory was wanting for that
-  pub many_stopped : (c : CommandTree) (doing : Doing) (page : Option PageState) → Reads c doing page → (earlier : List Sight) (s : Sight) (error : ErrorItem) (reply : Reply) → IsBegun base coll k moment c earlier
-      → Stops base coll k (Marks base coll k moment c earlier) (IsToWrite base coll k moment c earlier) s.item s error → RefusesAfter doing (stands_for doing page earlier) error reply → Serves base coll k moment c (s ∷ earlier) reply
+  pub many_stopped : (c : CommandTree) (doing : Doing) (page : Option PageState) → Reads c doing page → (earlier : List Sight) (s : Sight) (error : ErrorItem) (reply : Reply) → IsBegun base coll k c earlier
+      → Stops base coll k (Marks base coll k c earlier) (IsToWrite base coll k c earlier) s.item s error → RefusesAfter doing (stands_for doing page earlier) error reply → Serves base coll k c (s ∷ earlier) reply
   many_stopped c doing page reads earlier s error reply begun stops refuses = ⊎_elim
       (λ (r : IsRefusalAfter (so_far_of doing (stands_for doing page earlier)) error reply). inr (inl (error, (begun.0, begun.1, stops), subst (λ (z : Option SoFar). IsRefusalAfter z error reply) (sym (reads.done earlier)) r)))
       (λ (e : reply ≡ NoMemory (stands_for doing page earlier).modified).
       let a = reads.counts earlier begun.0 in
-      let b = stops_wrote base coll k moment _ _ s.item s error stops in
+      let b = stops_wrote base coll k _ _ s.item s error stops in
       let z : (stands_for doing page earlier).modified ≡ one_if_wrote s.item + accepted earlier = omega arith in
       inr (inr (inr (error, (begun.0, begun.1, stops)), e ∙ ap NoMemory z)))
       refuses
 
 -- ---- it goes on behind an item
 
-module _ (base : Base) (coll : Name) (k : ℕ) (moment : ℤ) (many : Many) (done : IsDoneAt moment many.doing) (may : MayPage many.doing many.page.value) (H' : List Entry) (earlier : List Sight) (item : Item) where
+module _ (base : Base) (coll : Name) (k : ℕ) (many : Many) (done : IsDoneAt moment many.doing) (may : MayPage many.doing many.page.value) (H' : List Entry) (earlier : List Sight) (item : Item) where
   abbrev c : CommandTree
   c = taking many
 
@@ -138,14 +138,14 @@ module _ (base : Base) (coll : Name) (k : ℕ) (moment : ℤ) (many : Many) (don
   sights = sight H' item ∷ earlier
 
   abbrev st : Standing
-  st = stands_at base coll k moment many sights
+  st = stands_at base coll k many sights
 
-  pub tells : Reads base coll k moment (filter_tree many.wanted.filter) c doing many.page.value
-  tells = reads base coll k moment (filter_tree many.wanted.filter) many.doing many.page.value done may
+  pub tells : Reads base coll k (filter_tree many.wanted.filter) c doing many.page.value
+  tells = reads base coll k (filter_tree many.wanted.filter) many.doing many.page.value done may
 
-  module _ (part : IsPartOf base coll k moment c sights) (again : st.again ≡ false) (waiting : IsWaiting base coll st sights) where
+  module _ (part : IsPartOf base coll k c sights) (again : st.again ≡ false) (waiting : IsWaiting base coll st sights) where
     -- a state goes on with it
-    on_with : (i : Item) (w : State) → i ≡ item → IsStateAt many st w → IsUnderWay base coll k moment w (sight H' i ∷ earlier)
+    on_with : (i : Item) (w : State) → i ≡ item → IsStateAt many st w → IsUnderWay base coll k w (sight H' i ∷ earlier)
     on_with i (Inserting document) is h = absurd h
     on_with i (Selecting search p shows) is h = absurd h
     on_with i (Listing search p p') is h = absurd h
@@ -154,24 +154,24 @@ module _ (base : Base) (coll : Name) (k : ℕ) (moment : ℤ) (many : Many) (don
     on_with i (Changing u read new) is h = absurd h
     on_with i (Seeking x p) is h = absurd h
     on_with i (Deleting x read id) is h = absurd h
-    on_with i (Paging m' stand) is h = subst (λ (z : Item × Many). IsUnderWay base coll k moment (Paging z.1 stand) (sight H' z.0 ∷ earlier)) (λ j. (sym is j, sym h.0 j)) (
+    on_with i (Paging m' stand) is h = subst (λ (z : Item × Many). IsUnderWay base coll k (Paging z.1 stand) (sight H' z.0 ∷ earlier)) (λ j. (sym is j, sym h.0 j)) (
       (part, tells.opens sights (subst IsOn (sym (paging_turn doing st again h.1 h.2)) tt)),
       (waiting, h.1, again, h.3, done),
     )
-    on_with i (Trying m' stand attempt) is h = subst (λ (z : Item × Many). IsUnderWay base coll k moment (Trying z.1 stand attempt) (sight H' z.0 ∷ earlier)) (λ j. (sym is j, sym h.0 j)) (
+    on_with i (Trying m' stand attempt) is h = subst (λ (z : Item × Many). IsUnderWay base coll k (Trying z.1 stand attempt) (sight H' z.0 ∷ earlier)) (λ j. (sym is j, sym h.0 j)) (
       (part, tells.opens sights (subst IsOn (sym (trying_turn doing st h.2.first h.2.rest attempt.change h.2.first_time h.2.queue h.1 h.2.change)) tt)),
       (waiting, h.2, done),
     )
     on_with i (Retrying m' stand id) is h = absurd h
     on_with i (Done reply) is h = absurd h
 
-    ends_with : (i : Item) (reply : Reply) → i ≡ item → Ends doing many.page.value st (turn doing st) reply ⊎ (reply ≡ NoMemory st.modified) → Serves base coll k moment c (sight H' i ∷ earlier) reply
-    ends_with i reply is h = subst (λ (z : Item). Serves base coll k moment c (sight H' z ∷ earlier) reply) (sym is) (⊎_elim
+    ends_with : (i : Item) (reply : Reply) → i ≡ item → Ends doing many.page.value st (turn doing st) reply ⊎ (reply ≡ NoMemory st.modified) → Serves base coll k c (sight H' i ∷ earlier) reply
+    ends_with i reply is h = subst (λ (z : Item). Serves base coll k c (sight H' z ∷ earlier) reply) (sym is) (⊎_elim
         (λ (e : Ends doing many.page.value st (turn doing st) reply). inl (part, tells.ends sights reply e))
         (λ (e : reply ≡ NoMemory st.modified). inr (inr (inl part, e ∙ ap NoMemory (sym (tells.counts sights part)))))
         h)
 
-    pub goes_leads : (w : State) (o : Moved) → asked w ≡ Some c → GoesOnFrom many item st o → Leads base coll k moment H' w earlier o
+    pub goes_leads : (w : State) (o : Moved) → asked w ≡ Some c → GoesOnFrom many item st o → Leads base coll k H' w earlier o
     goes_leads w (m.Goes i w') is h = on_with i w' h.0 h.1
-    goes_leads w (m.Ends i reply) is h = subst (λ (z : Option CommandTree). IfSome z (λ x. Serves base coll k moment x (sight H' i ∷ earlier) reply)) (sym is) (ends_with i reply h.0 h.1)
+    goes_leads w (m.Ends i reply) is h = subst (λ (z : Option CommandTree). IfSome z (λ x. Serves base coll k x (sight H' i ∷ earlier) reply)) (sym is) (ends_with i reply h.0 h.1)
     goes_leads w m.NoMemory is h = absurd h

@@ -46,7 +46,7 @@ no_entry H' base coll f from r (Wrote at) h = absurd h
 no_entry H' base coll f from r (Lost at read found) h = absurd h
 no_entry H' base coll f from r (Faulted at before count) h = absurd h
 
-module _ (base : Base) (coll : Name) (k : ℕ) (moment : ℤ) (many : Many) (stand : Stand) (may : MayPage many.doing many.page.value) (unlisted : stand.is_whole ≡ false) (H' : List Entry) (earlier : List Sight) (way : IsUnderWay base coll k moment (Paging many stand) earlier) where
+module _ (base : Base) (coll : Name) (k : ℕ) (many : Many) (stand : Stand) (may : MayPage many.doing many.page.value) (unlisted : stand.is_whole ≡ false) (H' : List Entry) (earlier : List Sight) (way : IsUnderWay base coll k (Paging many stand) earlier) where
   abbrev f : FilterTree
   f = filter_tree many.wanted.filter
 
@@ -58,13 +58,13 @@ module _ (base : Base) (coll : Name) (k : ℕ) (moment : ℤ) (many : Many) (sta
 
   -- where it stands before the page
   abbrev st : Standing
-  st = stands_at base coll k moment many earlier
+  st = stands_at base coll k many earlier
 
   whole : st.is_whole ≡ false
   whole = sym way.1.3.is_whole ∙ unlisted
 
-  tells : Reads base coll k moment f c doing many.page.value
-  tells = reads base coll k moment f many.doing many.page.value way.1.4 may
+  tells : Reads base coll k f c doing many.page.value
+  tells = reads base coll k f many.doing many.page.value way.1.4 may
 
   looks : turn doing st ≡ looks_on st.from
   looks = paging_turn doing st way.1.2 way.1.1 whole
@@ -83,7 +83,7 @@ module _ (base : Base) (coll : Name) (k : ℕ) (moment : ℤ) (many : Many) (sta
     full : IfSome (end_of item) (λ u. FullPage base coll f (rows_now base coll s) item)
     full = subst (λ (o : Option Tree). IfSome o (λ u. FullPage base coll f (rows_now base coll s) item)) (sym sees.2) sees.3
 
-    part : IsPartOf base coll k moment c (s ∷ earlier)
+    part : IsPartOf base coll k c (s ∷ earlier)
     part = (way.0.0, way.0.1, tells.follows earlier s (subst (λ (t : Turn). Follows base coll k f t s) (sym looks) (next, full)))
 
     looked : (i : Item) → Looks base coll f (rows_now base coll s) st.from i → with_item base coll f doing i s st ≡ settle doing (with_look base coll f st.again s st)
@@ -92,7 +92,7 @@ module _ (base : Base) (coll : Name) (k : ℕ) (moment : ℤ) (many : Many) (sta
     looked (Lost at read found) h = absurd h
     looked (Faulted at before count) h = absurd h
 
-    stands : stands_at base coll k moment many (s ∷ earlier) ≡ settle doing listed
+    stands : stands_at base coll k many (s ∷ earlier) ≡ settle doing listed
     stands = looked item next.1 ∙ ap (λ (b : Bool). settle doing (with_look base coll f b s st)) way.1.2
 
     queue_is : listed.queue ≡ shown_with s (shown_by base coll f s)
@@ -119,15 +119,15 @@ module _ (base : Base) (coll : Name) (k : ℕ) (moment : ℤ) (many : Many) (sta
       last = has.last_is ∙ way.1.3.last;
     }
 
-    pub page_leads : (new : Stand) (o : Moved) → HasPage stand page.items up new → ((z : Standing) → IsStanding new z z.queue → z.again ≡ false → GoesOnFrom many item (settle doing z) o) → Leads base coll k moment H' (Paging many stand) earlier o
-    page_leads new o has goes = goes_leads base coll k moment many way.1.4 may H' earlier item part (ap (λ (z : Standing). z.again) stands ∙ again)
+    pub page_leads : (new : Stand) (o : Moved) → HasPage stand page.items up new → ((z : Standing) → IsStanding new z z.queue → z.again ≡ false → GoesOnFrom many item (settle doing z) o) → Leads base coll k H' (Paging many stand) earlier o
+    page_leads new o has goes = goes_leads base coll k many way.1.4 may H' earlier item part (ap (λ (z : Standing). z.again) stands ∙ again)
         (subst (λ (z : Standing). IsWaiting base coll z (s ∷ earlier)) (sym stands) waiting) (Paging many stand) o refl
         (subst (λ (z : Standing). GoesOnFrom many item z o) (sym stands) (goes listed (standing_of new has) way.1.2))
 
   -- no page
-  pub page_stopped : (item : Item) (reply told : Reply) → StopsSo base coll k H' stand.from item reply → ((error : ErrorItem) → Refuses error reply → TellsAfter many.doing stand error told) → Serves base coll k moment c (sight H' item ∷ earlier) told
-  page_stopped item reply told stops tells_after = many_stopped base coll k moment f c doing many.page.value tells earlier (sight H' item) stops.0 told way.0
-      (stops_more base coll k _ (Marks base coll k moment c earlier) (IsToWrite base coll k moment c earlier) item (sight H' item) stops.0
+  pub page_stopped : (item : Item) (reply told : Reply) → StopsSo base coll k H' stand.from item reply → ((error : ErrorItem) → Refuses error reply → TellsAfter many.doing stand error told) → Serves base coll k c (sight H' item ∷ earlier) told
+  page_stopped item reply told stops tells_after = many_stopped base coll k f c doing many.page.value tells earlier (sight H' item) stops.0 told way.0
+      (stops_more base coll k _ (Marks base coll k c earlier) (IsToWrite base coll k c earlier) item (sight H' item) stops.0
       (λ a t z. tells.marks earlier a t (subst (λ (x : Turn). MarksTurn x a t) (sym looks) (z.0 ∙ way.1.3.from, z.1)))
       (λ w. subst IsWrite looks (tells.to_write earlier w)) stops.1)
       (tells_after stops.0 stops.2 st way.1.3.matched way.1.3.modified)

@@ -106,27 +106,27 @@ IsSingle (update_many f u page) = ⊥
 IsSingle (delete_one f sort) = ⊤
 IsSingle (delete_many f) = ⊥
 
-module _ (base : Base) (coll : Name) (k : ℕ) (moment : ℤ) where
+module _ (base : Base) (coll : Name) (k : ℕ) where
   pub looks_wrote : (f : FilterTree) (r : Rows) (from : Option Tree) (i : Item) → Looks base coll f r from i → one_if_wrote i ≡ 0
   looks_wrote f r from (Looked at after up shown) h = refl
   looks_wrote f r from (Wrote at) h = absurd h
   looks_wrote f r from (Lost at read found) h = absurd h
   looks_wrote f r from (Faulted at before count) h = absurd h
 
-  pub find_one_accepts : (f : FilterTree) (sort : SortKeys) (shows : Shows) (s : List Sight) → IsPartOf base coll k moment (find_one f sort shows) s → accepted s ≡ 0
+  pub find_one_accepts : (f : FilterTree) (sort : SortKeys) (shows : Shows) (s : List Sight) → IsPartOf base coll k (find_one f sort shows) s → accepted s ≡ 0
   find_one_accepts f sort shows [] h = refl
   find_one_accepts f sort shows (s ∷ earlier) h = let a = find_one_accepts f sort shows earlier h.0 in let b = looks_wrote f _ _ s.item h.2.1 in omega arith
 
-  pub find_accepts : (f : FilterTree) (sort : SortKeys) (shows : Shows) (p : Paging) (s : List Sight) → IsPartOf base coll k moment (find f sort shows p) s → accepted s ≡ 0
+  pub find_accepts : (f : FilterTree) (sort : SortKeys) (shows : Shows) (p : Paging) (s : List Sight) → IsPartOf base coll k (find f sort shows p) s → accepted s ≡ 0
   find_accepts f sort shows p [] h = refl
   find_accepts f sort shows p (s ∷ earlier) h = let a = find_accepts f sort shows p earlier h.0 in let b = looks_wrote f _ _ s.item h.2.1 in omega arith
 
-  count_accepts : (f : FilterTree) (s : List Sight) → IsPartOf base coll k moment (count_documents f) s → accepted s ≡ 0
+  count_accepts : (f : FilterTree) (s : List Sight) → IsPartOf base coll k (count_documents f) s → accepted s ≡ 0
   count_accepts f [] h = refl
   count_accepts f (s ∷ earlier) h = let a = count_accepts f earlier h.0 in let b = looks_wrote f _ _ s.item h.2.1 in omega arith
 
   -- as long as one that ends with its first accepted write is under way, none was accepted
-  pub accepts : (c : CommandTree) → IsSingle c → (s : List Sight) → IsBegun base coll k moment c s → accepted s ≡ 0
+  pub accepts : (c : CommandTree) → IsSingle c → (s : List Sight) → IsBegun base coll k c s → accepted s ≡ 0
   accepts (insert_one d) one s h = ap accepted h.1
   accepts (find_one f sort shows) one s h = find_one_accepts f sort shows s h.0
   accepts (find f sort shows p) one s h = find_accepts f sort shows p s h.0
@@ -136,7 +136,7 @@ module _ (base : Base) (coll : Name) (k : ℕ) (moment : ℤ) where
   accepts (delete_one f sort) one s h = h.1.0
   accepts (delete_many f) one s h = absurd one
 
-  nothing_done : (c : CommandTree) → IsSingle c → (s : List Sight) → done_by base coll k moment c s ≡ None
+  nothing_done : (c : CommandTree) → IsSingle c → (s : List Sight) → done_by base coll k c s ≡ None
   nothing_done (insert_one d) one s = refl
   nothing_done (find_one f sort shows) one s = refl
   nothing_done (find f sort shows p) one s = refl
@@ -147,7 +147,7 @@ module _ (base : Base) (coll : Name) (k : ℕ) (moment : ℤ) where
   nothing_done (delete_many f) one s = absurd one
 
   -- a request that is under way may end for want of memory
-  pub cut_off : (c : CommandTree) (s : List Sight) → IsBegun base coll k moment c s → Serves base coll k moment c s (NoMemory (accepted s))
+  pub cut_off : (c : CommandTree) (s : List Sight) → IsBegun base coll k c s → Serves base coll k c s (NoMemory (accepted s))
   cut_off c s h = inr (inr (inl h.0, refl))
 
   pub stops_wrote : (marks : Option Tree → Option Tree → Type 0) (to_write : Type 0) (i : Item) (s : Sight) (error : ErrorItem) → Stops base coll k marks to_write i s error → one_if_wrote i ≡ 0
@@ -157,21 +157,21 @@ module _ (base : Base) (coll : Name) (k : ℕ) (moment : ℤ) where
   stops_wrote marks to_write (Faulted at before count) s error h = refl
 
   -- a request that stops at an item, whether its error was told or memory was wanting
-  pub stopped_serves : (c : CommandTree) → IsSingle c → (earlier : List Sight) (s : Sight) (error : ErrorItem) (reply : Reply) → IsBegun base coll k moment c earlier
-      → Stops base coll k (Marks base coll k moment c earlier) (IsToWrite base coll k moment c earlier) s.item s error → Refuses error reply → Serves base coll k moment c (s ∷ earlier) reply
+  pub stopped_serves : (c : CommandTree) → IsSingle c → (earlier : List Sight) (s : Sight) (error : ErrorItem) (reply : Reply) → IsBegun base coll k c earlier
+      → Stops base coll k (Marks base coll k c earlier) (IsToWrite base coll k c earlier) s.item s error → Refuses error reply → Serves base coll k c (s ∷ earlier) reply
   stopped_serves c one earlier s error reply begun stops refuses = ⊎_elim
       (λ (r : IsRefusal error reply). inr (inl (error, (begun.0, begun.1, stops), subst (λ (z : Option SoFar). IsRefusalAfter z error reply) (sym (nothing_done c one earlier)) r)))
       (λ (e : reply ≡ NoMemory 0). let a = accepts c one earlier begun in let b = stops_wrote _ _ s.item s error stops in let z : 0 ≡ one_if_wrote s.item + accepted earlier = omega arith in inr (inr (inr (error, (begun.0, begun.1, stops)), e ∙ ap NoMemory z)))
       refuses
 
-  pub failed_serves : (c : CommandTree) → IsSingle c → (earlier : List Sight) (H H' : List Entry) (at before count : ℕ) (reply : Reply) → IsBegun base coll k moment c earlier → H' ≡ H ++ Failed k before count ∷ [] → at ≡ length H
-      → Refuses (errors.store_fault before count) reply → Serves base coll k moment c (sight H' (Faulted at before count) ∷ earlier) reply
+  pub failed_serves : (c : CommandTree) → IsSingle c → (earlier : List Sight) (H H' : List Entry) (at before count : ℕ) (reply : Reply) → IsBegun base coll k c earlier → H' ≡ H ++ Failed k before count ∷ [] → at ≡ length H
+      → Refuses (errors.store_fault before count) reply → Serves base coll k c (sight H' (Faulted at before count) ∷ earlier) reply
   failed_serves c one earlier H H' at before count reply begun longer here refuses = stopped_serves c one earlier (sight H' (Faulted at before count)) (errors.store_fault before count) reply begun (saw_entry H H' (Failed k before count) at longer here, refl) refuses
 
   -- ---- insertOne
 
-  pub insert_serves : (d : Tree) (earlier : List Sight) (H H' : List Entry) (at tx : ℕ) (reply : Reply) → IsBegun base coll k moment (insert_one d) earlier → H' ≡ H ++ Changed k coll (id_of d) (Insert d) None tx ∷ [] → at ≡ length H
-      → number_at (replay base H) coll (id_of d) ≡ None → TellsInserted (id_of d) reply → Serves base coll k moment (insert_one d) (sight H' (Wrote at) ∷ earlier) reply
+  pub insert_serves : (d : Tree) (earlier : List Sight) (H H' : List Entry) (at tx : ℕ) (reply : Reply) → IsBegun base coll k (insert_one d) earlier → H' ≡ H ++ Changed k coll (id_of d) (Insert d) None tx ∷ [] → at ≡ length H
+      → number_at (replay base H) coll (id_of d) ≡ None → TellsInserted (id_of d) reply → Serves base coll k (insert_one d) (sight H' (Wrote at) ∷ earlier) reply
   insert_serves d earlier H H' at tx reply begun longer here absent tells =
       let e : Entry = Changed k coll (id_of d) (Insert d) None tx in
       let past = saw_before H H' e at longer here in
@@ -182,23 +182,23 @@ module _ (base : Base) (coll : Name) (k : ℕ) (moment : ℤ) where
       inl ((begun.0, begun.1, inl made), inl (made, tells))
 
   -- the write was accepted
-  pub written_leads : (d : Value) (doc key : Tree) (earlier : List Sight) (H H' : List Entry) (at tx : ℕ) (reply : Reply) → tree d ≡ doc → key ≡ id_of doc → IsUnderWay base coll k moment (Inserting d) earlier
-      → H' ≡ H ++ Changed k coll key (Insert doc) None tx ∷ [] → at ≡ length H → number_at (replay base H) coll key ≡ None → TellsInserted (id_of doc) reply → Leads base coll k moment H' (Inserting d) earlier (m.Ends (Wrote at) reply)
+  pub written_leads : (d : Value) (doc key : Tree) (earlier : List Sight) (H H' : List Entry) (at tx : ℕ) (reply : Reply) → tree d ≡ doc → key ≡ id_of doc → IsUnderWay base coll k (Inserting d) earlier
+      → H' ≡ H ++ Changed k coll key (Insert doc) None tx ∷ [] → at ≡ length H → number_at (replay base H) coll key ≡ None → TellsInserted (id_of doc) reply → Leads base coll k H' (Inserting d) earlier (m.Ends (Wrote at) reply)
   written_leads d doc key earlier H H' at tx reply d_is key_is way longer here absent tells =
       let id_is : key ≡ id_of (tree d) = key_is ∙ ap id_of (sym d_is) in
       insert_serves (tree d) earlier H H' at tx reply way.0 (longer ∙ (λ i. H ++ Changed k coll (id_is i) (Insert (sym d_is i)) None tx ∷ [])) here
       (subst (λ (t : Tree). number_at (replay base H) coll t ≡ None) id_is absent) (subst (λ (t : Tree). TellsInserted (id_of t) reply) (sym d_is) tells)
 
-  taken_serves : (d : Tree) (earlier : List Sight) (s : Sight) (tx : ℕ) (reply : Reply) → IsBegun base coll k moment (insert_one d) earlier → IsTaken base coll k d tx s
-      → Refuses (errors.already_exists (id_of d) tx) reply → Serves base coll k moment (insert_one d) (s ∷ earlier) reply
+  taken_serves : (d : Tree) (earlier : List Sight) (s : Sight) (tx : ℕ) (reply : Reply) → IsBegun base coll k (insert_one d) earlier → IsTaken base coll k d tx s
+      → Refuses (errors.already_exists (id_of d) tx) reply → Serves base coll k (insert_one d) (s ∷ earlier) reply
   taken_serves d earlier s tx reply begun taken refuses = ⊎_elim
       (λ (r : IsRefusal (errors.already_exists (id_of d) tx) reply). inl ((begun.0, begun.1, inr (tx, taken)), inr (tx, taken, r)))
       (λ (e : reply ≡ NoMemory 0). let a = accepts (insert_one d) tt earlier begun in let b : one_if_wrote s.item ≡ 0 = ap one_if_wrote taken.item in let z : 0 ≡ one_if_wrote s.item + accepted earlier = omega arith in
       inr (inr (inl (begun.0, begun.1, inr (tx, taken)), e ∙ ap NoMemory z)))
       refuses
 
-  pub lost_leads : (d : Value) (earlier : List Sight) (H H' : List Entry) (at tx : ℕ) (found : Option ℕ) (o : Moved) → IsUnderWay base coll k moment (Inserting d) earlier → H' ≡ H → at ≡ length H
-      → found ≡ Some tx → number_at (replay base H) coll (id_of (tree d)) ≡ found → EndsSo (Lost at 0 (Some tx)) (Refuses (errors.already_exists (id_of (tree d)) tx)) o → Leads base coll k moment H' (Inserting d) earlier o
+  pub lost_leads : (d : Value) (earlier : List Sight) (H H' : List Entry) (at tx : ℕ) (found : Option ℕ) (o : Moved) → IsUnderWay base coll k (Inserting d) earlier → H' ≡ H → at ≡ length H
+      → found ≡ Some tx → number_at (replay base H) coll (id_of (tree d)) ≡ found → EndsSo (Lost at 0 (Some tx)) (Refuses (errors.already_exists (id_of (tree d)) tx)) o → Leads base coll k H' (Inserting d) earlier o
   lost_leads d earlier H H' at tx found (m.Goes i w) way same here is there o_is = absurd o_is
   lost_leads d earlier H H' at tx found (m.Ends i r) way same here is there o_is =
       let past = saw H H' at same here in
@@ -206,13 +206,13 @@ module _ (base : Base) (coll : Name) (k : ℕ) (moment : ℤ) where
         item = ap (λ n. Lost n 0 (Some tx)) (here ∙ sym (ap length past));
         there = ap (λ (l : List Entry). number_at (replay base l) coll (id_of (tree d))) past ∙ there ∙ is;
       } in
-      subst (λ z. Serves base coll k moment (insert_one (tree d)) (sight H' z ∷ earlier) r) (sym o_is.0) (taken_serves (tree d) earlier (sight H' (Lost at 0 (Some tx))) tx r way.0 taken o_is.1)
+      subst (λ z. Serves base coll k (insert_one (tree d)) (sight H' z ∷ earlier) r) (sym o_is.0) (taken_serves (tree d) earlier (sight H' (Lost at 0 (Some tx))) tx r way.0 taken o_is.1)
   lost_leads d earlier H H' at tx found m.NoMemory way same here is there o_is = absurd o_is
 
   -- a mark in the place of the write
-  pub mark_serves : (d : Tree) (earlier : List Sight) (H H' : List Entry) (at : ℕ) (item : Item) (error : ErrorItem) (reply : Reply) → IsBegun base coll k moment (insert_one d) earlier → H' ≡ H → at ≡ length H
+  pub mark_serves : (d : Tree) (earlier : List Sight) (H H' : List Entry) (at : ℕ) (item : Item) (error : ErrorItem) (reply : Reply) → IsBegun base coll k (insert_one d) earlier → H' ≡ H → at ≡ length H
       → IsLooked item at (Some (id_of d)) (Some (id_of d)) [] → IsNoWrite coll (replay base H) error
-      → Refuses error reply → Serves base coll k moment (insert_one d) (sight H' item ∷ earlier) reply
+      → Refuses error reply → Serves base coll k (insert_one d) (sight H' item ∷ earlier) reply
   mark_serves d earlier H H' at (Looked a from to pairs) error reply begun same here is cause refuses =
       let past : take a H' ≡ H = saw H H' a same (is.0 ∙ here) in
       let back : replay base H ≡ replay base (take a H') = ap (replay base) (sym past) in
@@ -222,30 +222,30 @@ module _ (base : Base) (coll : Name) (k : ℕ) (moment : ℤ) where
   mark_serves d earlier H H' at (Lost a read f) error reply begun same here is cause refuses = absurd is
   mark_serves d earlier H H' at (Faulted a b c) error reply begun same here is cause refuses = absurd is
 
-  pub marked_leads : (d : Value) (earlier : List Sight) (H H' : List Entry) (at : ℕ) (key twin : Tree) (error : ErrorItem) (o : Moved) → key ≡ id_of (tree d) → twin ≡ id_of (tree d) → IsUnderWay base coll k moment (Inserting d) earlier → H' ≡ H → at ≡ length H
+  pub marked_leads : (d : Value) (earlier : List Sight) (H H' : List Entry) (at : ℕ) (key twin : Tree) (error : ErrorItem) (o : Moved) → key ≡ id_of (tree d) → twin ≡ id_of (tree d) → IsUnderWay base coll k (Inserting d) earlier → H' ≡ H → at ≡ length H
       → IsNoWrite coll (replay base H) error
-      → EndsMarked at (Some key) (Some twin) (Refuses error) o → Leads base coll k moment H' (Inserting d) earlier o
+      → EndsMarked at (Some key) (Some twin) (Refuses error) o → Leads base coll k H' (Inserting d) earlier o
   marked_leads d earlier H H' at key twin error (m.Goes i w) key_is twin_is way same here cause is = absurd is
   marked_leads d earlier H H' at key twin error (m.Ends i r) key_is twin_is way same here cause is =
       mark_serves (tree d) earlier H H' at i error r way.0 same here (subst (λ (t : Tree). IsLooked i at (Some (id_of (tree d))) (Some t) []) twin_is (subst (λ (t : Tree). IsLooked i at (Some t) (Some twin) []) key_is is.0)) cause is.1
   marked_leads d earlier H H' at key twin error m.NoMemory key_is twin_is way same here cause is = absurd is
 
-  pub failed_leads : (d : Value) (earlier : List Sight) (H H' : List Entry) (at before count : ℕ) (o : Moved) → IsUnderWay base coll k moment (Inserting d) earlier → H' ≡ H ++ Failed k before count ∷ [] → at ≡ length H
-      → EndsSo (Faulted at before count) (Refuses (errors.store_fault before count)) o → Leads base coll k moment H' (Inserting d) earlier o
+  pub failed_leads : (d : Value) (earlier : List Sight) (H H' : List Entry) (at before count : ℕ) (o : Moved) → IsUnderWay base coll k (Inserting d) earlier → H' ≡ H ++ Failed k before count ∷ [] → at ≡ length H
+      → EndsSo (Faulted at before count) (Refuses (errors.store_fault before count)) o → Leads base coll k H' (Inserting d) earlier o
   failed_leads d earlier H H' at before count (m.Goes i w) way longer here is = absurd is
   failed_leads d earlier H H' at before count (m.Ends i r) way longer here is =
-      subst (λ (z : Item). Serves base coll k moment (insert_one (tree d)) (sight H' z ∷ earlier) r) (sym is.0) (failed_serves (insert_one (tree d)) tt earlier H H' at before count r way.0 longer here is.1)
+      subst (λ (z : Item). Serves base coll k (insert_one (tree d)) (sight H' z ∷ earlier) r) (sym is.0) (failed_serves (insert_one (tree d)) tt earlier H H' at before count r way.0 longer here is.1)
   failed_leads d earlier H H' at before count m.NoMemory way longer here is = absurd is
 
   -- ---- listings
 
-  pub count_ended : (w : Wanted) (last : Option Tree) (n : ℕ) (H' : List Entry) (earlier : List Sight) (item : Item) (r : Reply) → IsUnderWay base coll k moment (Counting w last n) earlier → StopsSo base coll k H' last item r
-      → Serves base coll k moment (count_documents (filter_tree w.filter)) (sight H' item ∷ earlier) r
+  pub count_ended : (w : Wanted) (last : Option Tree) (n : ℕ) (H' : List Entry) (earlier : List Sight) (item : Item) (r : Reply) → IsUnderWay base coll k (Counting w last n) earlier → StopsSo base coll k H' last item r
+      → Serves base coll k (count_documents (filter_tree w.filter)) (sight H' item ∷ earlier) r
   count_ended w last n H' earlier item r way stops = stopped_serves (count_documents (filter_tree w.filter)) tt earlier (sight H' item) stops.0 r way.0
       (subst (λ (l : Option Tree). Stops base coll k (λ after up. (after ≡ l) × (up ≡ None)) ⊥ item (sight H' item) stops.0) way.1.0 stops.1) stops.2
 
-  pub count_leads : (w : Wanted) (last : Option Tree) (n n' : ℕ) (H' : List Entry) (earlier : List Sight) (item : Item) (page : Vec Version Global) (up : Option Tree) → n' ≡ n + length page.items → IsUnderWay base coll k moment (Counting w last n) earlier
-      → Sees base coll k H' (filter_tree w.filter) last (g.Shown item page up) → Leads base coll k moment H' (Counting w last n) earlier (count_to w item n' up)
+  pub count_leads : (w : Wanted) (last : Option Tree) (n n' : ℕ) (H' : List Entry) (earlier : List Sight) (item : Item) (page : Vec Version Global) (up : Option Tree) → n' ≡ n + length page.items → IsUnderWay base coll k (Counting w last n) earlier
+      → Sees base coll k H' (filter_tree w.filter) last (g.Shown item page up) → Leads base coll k H' (Counting w last n) earlier (count_to w item n' up)
   count_leads w last n n' H' earlier item page up sum way sees = parts up sees (way.0.0, way.0.1, subst (λ (l : Option Tree). IsLook base coll f l s) way.1.0 sees.0) all
     where
       f : FilterTree
@@ -257,10 +257,10 @@ module _ (base : Base) (coll : Name) (k : ℕ) (moment : ℤ) where
       all : n' ≡ length (shown base coll f (s ∷ earlier))
       all = let a = length-append (shown base coll f earlier) (shown_by base coll f s) in let b = ap length sees.1 in let c = length-map page.items found_row in let d = way.1.1 in omega arith
 
-      parts : (up' : Option Tree) → Sees base coll k H' f last (g.Shown item page up') → IsPartOf base coll k moment (count_documents f) (s ∷ earlier) → n' ≡ length (shown base coll f (s ∷ earlier))
-          → Leads base coll k moment H' (Counting w last n) earlier (count_to w item n' up')
+      parts : (up' : Option Tree) → Sees base coll k H' f last (g.Shown item page up') → IsPartOf base coll k (count_documents f) (s ∷ earlier) → n' ≡ length (shown base coll f (s ∷ earlier))
+          → Leads base coll k H' (Counting w last n) earlier (count_to w item n' up')
       parts None z part all' = inl (part, (inl z.2, ap counted all'))
-      parts (Some u) z part all' = elim (nat_le 1001 n') as (λ t. nat_le 1001 n' ≡ t → Leads base coll k moment H' (Counting w last n) earlier (if t then m.Ends item (counted n') else m.Goes item (Counting w (Some u) n'))) [
+      parts (Some u) z part all' = elim (nat_le 1001 n') as (λ t. nat_le 1001 n' ≡ t → Leads base coll k H' (Counting w last n) earlier (if t then m.Ends item (counted n') else m.Goes item (Counting w (Some u) n'))) [
         | true ↦ λ e. inl (part, (inr (let l = leb-true 1001 n' e in omega arith), ap counted all'))
         | false ↦ λ e. ((part, (z.3, let l = few n' e (leb_tells 1001 n') in omega arith)), (sym z.2, all'))
       ] refl

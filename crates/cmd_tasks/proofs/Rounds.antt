@@ -88,7 +88,7 @@ pub not_some : {A : Type 0} (o : Option A) → o ≡ None → IsSome o → ⊥
 not_some None e h = cc
 not_some (Some a) e h = cc
 
-module _ (base : Base) (coll : Name) (k : ℕ) (moment : ℤ) (u : Updating) (one : u.search.keep ≡ 1) (H' : List Entry) (earlier : List Sight) (p : Progress) (way : IsUnderWay base coll k moment (Choosing u p) earlier) where
+module _ (base : Base) (coll : Name) (k : ℕ) (u : Updating) (one : u.search.keep ≡ 1) (H' : List Entry) (earlier : List Sight) (p : Progress) (way : IsUnderWay base coll k (Choosing u p) earlier) where
   abbrev f : FilterTree
   f = filter_tree u.search.wanted.filter
 
@@ -110,7 +110,7 @@ module _ (base : Base) (coll : Name) (k : ℕ) (moment : ℤ) (u : Updating) (on
     facts : (lost_by item ≡ []) × (one_if_wrote item ≡ 0) × (writes item ≡ false)
     facts = looked_facts base coll f _ _ item next.1
 
-    part : IsPartOf base coll k moment (updating u) (s ∷ earlier)
+    part : IsPartOf base coll k (updating u) (s ∷ earlier)
     part = (way.0.0, way.0.1, match_none (chosen base coll k f sort earlier) _ _ way.1.1 next)
 
     round_is : round (s ∷ earlier) ≡ s ∷ round earlier
@@ -125,13 +125,13 @@ module _ (base : Base) (coll : Name) (k : ℕ) (moment : ℤ) (u : Updating) (on
     few : length (losses (s ∷ earlier)) < 4
     few = let a = ap length lost_is in let b = way.0.1.1 in omega arith
 
-    kept : IsKept base coll k moment u (s ∷ earlier)
+    kept : IsKept base coll k u (s ∷ earlier)
     kept = let h = way.1.2 in record { moment_is = h.moment_is; lost_are = h.lost_are ∙ sym lost_is }
 
     chosen_is : chosen base coll k f sort (s ∷ earlier) ≡ first_of sort (s ∷ round earlier) (shown base coll f (s ∷ round earlier))
     chosen_is = ap (λ (z : List Sight). first_of sort z (shown base coll f z)) round_is
 
-    pub choose_more : (p' : Progress) → IsSearching base coll None u.search p' (s ∷ round earlier) → IsUnended base coll None u.search (s ∷ round earlier) → IsUnderWay base coll k moment (Choosing u p') (s ∷ earlier)
+    pub choose_more : (p' : Progress) → IsSearching base coll None u.search p' (s ∷ round earlier) → IsUnended base coll None u.search (s ∷ round earlier) → IsUnderWay base coll k (Choosing u p') (s ∷ earlier)
     choose_more p' searching unended = (
       (part, (accepted_is, few, match_none (chosen base coll k f sort (s ∷ earlier)) _ _ none (subst (GoesOn base coll f (bound sort 1)) (sym round_is) goes))),
       (subst (IsSearching base coll None u.search p') (sym round_is) searching, none, kept),
@@ -154,7 +154,7 @@ module _ (base : Base) (coll : Name) (k : ℕ) (moment : ℤ) (u : Updating) (on
       told_first : chosen base coll k f sort (s ∷ earlier) ≡ first (in_order sort (shown base coll f (s ∷ round earlier)))
       told_first = chosen_is ∙ first_told base coll f sort (s ∷ round earlier) listed sortable
 
-      found_so : (r : Reply) → MatchOption (first (in_order sort (shown base coll f (s ∷ round earlier)))) (r ≡ reply.Updated 0 0) (λ x. TellsUnwritten (apply u.updates x.doc moment false) x.doc r) → Serves base coll k moment (updating u) (s ∷ earlier) r
+      found_so : (r : Reply) → MatchOption (first (in_order sort (shown base coll f (s ∷ round earlier)))) (r ≡ reply.Updated 0 0) (λ x. TellsUnwritten (apply u.updates x.doc moment false) x.doc r) → Serves base coll k (updating u) (s ∷ earlier) r
       found_so r told = inl (
         part,
         inr (inr (
@@ -165,8 +165,8 @@ module _ (base : Base) (coll : Name) (k : ℕ) (moment : ℤ) (u : Updating) (on
         )),
       )
 
-      takes : (v : Version) (o : Moved) → option_map found_row (first p'.kept.items) ≡ Some (found_row v) → Takes u item v o → Leads base coll k moment H' (Choosing u p) earlier o
-      takes v (m.Goes i w) is t = subst (λ (z : Item × State). Leads base coll k moment H' (Choosing u p) earlier (m.Goes z.0 z.1)) (λ j. (sym t.3 j, sym t.4 j)) (
+      takes : (v : Version) (o : Moved) → option_map found_row (first p'.kept.items) ≡ Some (found_row v) → Takes u item v o → Leads base coll k H' (Choosing u p) earlier o
+      takes v (m.Goes i w) is t = subst (λ (z : Item × State). Leads base coll k H' (Choosing u p) earlier (m.Goes z.0 z.1)) (λ j. (sym t.3 j, sym t.4 j)) (
         (part, (accepted_is, few, match_some (chosen base coll k f sort (s ∷ earlier)) (found_row v) _ _ (told_first ∙ (first_is ∙ is)) (t.0, makes))),
         record {
           kept = kept;
@@ -181,19 +181,19 @@ module _ (base : Base) (coll : Name) (k : ℕ) (moment : ℤ) (u : Updating) (on
         where
           makes : MakesAnother u.updates moment v.doc t.0
           makes = subst (λ (n : ℤ). MakesAnother u.updates n v.doc t.0) kept.moment_is t.1
-      takes v (m.Ends i r) is t = subst (λ z. Leads base coll k moment H' (Choosing u p) earlier (m.Ends z r)) (sym t.0) (⊎_elim
+      takes v (m.Ends i r) is t = subst (λ z. Leads base coll k H' (Choosing u p) earlier (m.Ends z r)) (sym t.0) (⊎_elim
           (λ (told : TellsUnwritten (apply u.updates v.doc u.moment false) v.doc r). found_so r (match_some (first (in_order sort (shown base coll f (s ∷ round earlier)))) (found_row v) _ _ (first_is ∙ is) (subst (λ (n : ℤ). TellsUnwritten (apply u.updates v.doc n false) v.doc r) kept.moment_is told)))
           (λ (cut : r ≡ reply.NoMemory 0). inr (inr (inl part, cut ∙ ap reply.NoMemory (sym accepted_is)))) t.1)
       takes v m.NoMemory is t = absurd t
 
-      pub choose_whole : (rows : List Version) (o : Moved) → p'.kept.items ≡ rows → Chooses u item rows o → Leads base coll k moment H' (Choosing u p) earlier o
+      pub choose_whole : (rows : List Version) (o : Moved) → p'.kept.items ≡ rows → Chooses u item rows o → Leads base coll k H' (Choosing u p) earlier o
       choose_whole (v ∷ more) o are c = takes v o (ap (λ (z : List Version). option_map found_row (first z)) are) c
-      choose_whole [] o are c = subst (Leads base coll k moment H' (Choosing u p) earlier) (sym c)
+      choose_whole [] o are c = subst (Leads base coll k H' (Choosing u p) earlier) (sym c)
           (found_so (reply.Updated 0 0) (match_none (first (in_order sort (shown base coll f (s ∷ round earlier)))) _ _ (first_is ∙ ap (λ (z : List Version). option_map found_row (first z)) are) refl))
 
     -- more are found than are sorted
-    pub choose_many : (r : Reply) → IsEnded base coll None u.search (s ∷ round earlier) → has_too_many base coll None u.search (s ∷ round earlier) ≡ true → Refuses errors.too_many_to_sort r → Serves base coll k moment (updating u) (s ∷ earlier) r
-    choose_many r ended many refuses = answered base coll k moment (updating u) (s ∷ earlier) r _ part accepted_is
+    pub choose_many : (r : Reply) → IsEnded base coll None u.search (s ∷ round earlier) → has_too_many base coll None u.search (s ∷ round earlier) ≡ true → Refuses errors.too_many_to_sort r → Serves base coll k (updating u) (s ∷ earlier) r
+    choose_many r ended many refuses = answered base coll k (updating u) (s ∷ earlier) r _ part accepted_is
         (λ t. inr (inr (
           accepted_is,
           few,
@@ -201,10 +201,10 @@ module _ (base : Base) (coll : Name) (k : ℕ) (moment : ℤ) (u : Updating) (on
               (subst (λ (n : ℕ). IsListed base coll f (bound sort n) (s ∷ round earlier)) one ended, inl (many, t)),
         ))) refuses
 
-  pub choose_stopped : (item : Item) (r : Reply) → Seeks base coll None u.search k H' (round earlier) (sr.Stopped item r) → Serves base coll k moment (updating u) (sight H' item ∷ earlier) r
+  pub choose_stopped : (item : Item) (r : Reply) → Seeks base coll None u.search k H' (round earlier) (sr.Stopped item r) → Serves base coll k (updating u) (sight H' item ∷ earlier) r
   choose_stopped item r h = ⊎_elim
-      (λ stops. stopped_serves base coll k moment (updating u) tt earlier (sight H' item) stops.0 r way.0
-      (stops_more base coll k _ (Marks base coll k moment (updating u) earlier) (IsToWrite base coll k moment (updating u) earlier) item (sight H' item) stops.0
+      (λ stops. stopped_serves base coll k (updating u) tt earlier (sight H' item) stops.0 r way.0
+      (stops_more base coll k _ (Marks base coll k (updating u) earlier) (IsToWrite base coll k (updating u) earlier) item (sight H' item) stops.0
       (λ a t z. match_none (chosen base coll k f sort earlier) _ _ way.1.1 z) (not_some (chosen base coll k f sort earlier) way.1.1) stops.1) stops.2)
       (λ many. choose_many item many.0 r many.1 many.2 many.3)
       h

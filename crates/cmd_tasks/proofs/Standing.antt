@@ -133,9 +133,9 @@ begins_ready moment c (Retrying many stand id) h = absurd h
 begins_ready moment c (Done reply) h = absurd h
 
 -- many documents of which nothing was looked at
-many_open : (base : Base) (coll : Name) (k : ℕ) (moment : ℤ) (f : FilterTree) (page : Option PageState) (doing : Doing) → IsOpen base coll k moment (taking_for f page doing) []
-many_open base coll k moment f page (Updates u at) = tt
-many_open base coll k moment f page Deletes = tt
+many_open : (base : Base) (coll : Name) (k : ℕ) (f : FilterTree) (page : Option PageState) (doing : Doing) → IsOpen base coll k (taking_for f page doing) []
+many_open base coll k f page (Updates u at) = tt
+many_open base coll k f page Deletes = tt
 
 nothing_waits : (base : Base) (coll : Name) (from : Option Tree) → IsWaiting base coll (at_start from) []
 nothing_waits base coll from = record { stood = tt; ascends = tt; passed = tt; written = λ id e. absurd (no e) }
@@ -154,48 +154,48 @@ stands_at_start stand from h = record {
   last = h.last;
 }
 
-begins_way : (base : Base) (coll : Name) (k : ℕ) (moment : ℤ) (c : CommandTree) (w : State) → Begins moment c w → IsUnderWay base coll k moment w []
-begins_way base coll k moment c (Inserting d) h = ((tt, refl), tt)
-begins_way base coll k moment c (Selecting search p shows) h = ((tt, tt), fresh_searching base coll None search p h.2)
-begins_way base coll k moment c (Listing search p part) h = ((tt, tt), fresh_searching base coll (from_of (paging part)) search p h.2)
-begins_way base coll k moment c (Counting w last n) h = ((tt, tt), (h.2, h.3))
-begins_way base coll k moment c (Choosing u p) h =
+begins_way : (base : Base) (coll : Name) (k : ℕ) (c : CommandTree) (w : State) → Begins moment c w → IsUnderWay base coll k w []
+begins_way base coll k c (Inserting d) h = ((tt, refl), tt)
+begins_way base coll k c (Selecting search p shows) h = ((tt, tt), fresh_searching base coll None search p h.2)
+begins_way base coll k c (Listing search p part) h = ((tt, tt), fresh_searching base coll (from_of (paging part)) search p h.2)
+begins_way base coll k c (Counting w last n) h = ((tt, tt), (h.2, h.3))
+begins_way base coll k c (Choosing u p) h =
     let none = none_first u.search.sort in (
       (tt, (refl, omega arith, match_none (first_of u.search.sort [] []) _ _ none tt)),
       (fresh_searching base coll None u.search p h.2, none, record { moment_is = h.4; lost_are = ap reverse h.3 }),
     )
-begins_way base coll k moment c (Changing u read d) h = absurd h
-begins_way base coll k moment c (Seeking d p) h =
+begins_way base coll k c (Changing u read d) h = absurd h
+begins_way base coll k c (Seeking d p) h =
     let none = none_first d.search.sort in (
       (tt, (refl, (let n = ap length h.3 in omega arith), match_none (first_of d.search.sort [] []) _ _ none tt)),
       (fresh_searching base coll None d.search p h.2, none, ap reverse h.3),
     )
-begins_way base coll k moment c (Deleting d read id) h = absurd h
-begins_way base coll k moment c (Paging many stand) h = (
-  (tt, many_open base coll k moment (filter_tree many.wanted.filter) many.page.value many.doing),
+begins_way base coll k c (Deleting d read id) h = absurd h
+begins_way base coll k c (Paging many stand) h = (
+  (tt, many_open base coll k (filter_tree many.wanted.filter) many.page.value many.doing),
   (nothing_waits base coll (option_map (λ p. p.last) many.page.value), refl, refl, stands_at_start stand (option_map (λ p. p.last) many.page.value) h.2, h.3),
 )
-begins_way base coll k moment c (Trying many stand attempt) h = absurd h
-begins_way base coll k moment c (Retrying many stand id) h = absurd h
-begins_way base coll k moment c (Done reply) h = absurd h
+begins_way base coll k c (Trying many stand attempt) h = absurd h
+begins_way base coll k c (Retrying many stand id) h = absurd h
+begins_way base coll k c (Done reply) h = absurd h
 
 -- as many writes were accepted as the state tells
-pub way_accepts : (base : Base) (coll : Name) (k : ℕ) (moment : ℤ) (w : State) (sights : List Sight) → IsReady w → IsUnderWay base coll k moment w sights → accepted sights ≡ accepted_by w
-way_accepts base coll k moment (Inserting d) sights ready way = accepts base coll k moment (insert_one (tree d)) tt sights way.0
-way_accepts base coll k moment (Selecting search p shows) sights ready way = accepts base coll k moment (find_one (filter_tree search.wanted.filter) search.sort shows) tt sights way.0
-way_accepts base coll k moment (Listing search p part) sights ready way = accepts base coll k moment (find (filter_tree search.wanted.filter) search.sort part.projection (paging part)) tt sights way.0
-way_accepts base coll k moment (Counting w last n) sights ready way = accepts base coll k moment (count_documents (filter_tree w.filter)) tt sights way.0
-way_accepts base coll k moment (Choosing u p) sights ready way = way.0.1.0
-way_accepts base coll k moment (Changing u read d) sights ready way = way.0.1.0
-way_accepts base coll k moment (Seeking d p) sights ready way = way.0.1.0
-way_accepts base coll k moment (Deleting d read id) sights ready way = way.0.1.0
-way_accepts base coll k moment (Paging many stand) sights ready way =
-    many_accepts base coll k moment (filter_tree many.wanted.filter) many.doing many.page.value way.1.4 ready.0.may sights way.0.0 ∙ sym way.1.3.modified
-way_accepts base coll k moment (Trying many stand attempt) sights ready way =
-    many_accepts base coll k moment (filter_tree many.wanted.filter) many.doing many.page.value way.1.2 ready.0.may sights way.0.0 ∙ sym way.1.1.stands.modified
-way_accepts base coll k moment (Retrying many stand id) sights ready way =
-    many_accepts base coll k moment (filter_tree many.wanted.filter) many.doing many.page.value way.1.2 ready.0.may sights way.0.0 ∙ sym way.1.1.stands.modified
-way_accepts base coll k moment (Done reply) sights ready way = absurd ready
+pub way_accepts : (base : Base) (coll : Name) (k : ℕ) (w : State) (sights : List Sight) → IsReady w → IsUnderWay base coll k w sights → accepted sights ≡ accepted_by w
+way_accepts base coll k (Inserting d) sights ready way = accepts base coll k (insert_one (tree d)) tt sights way.0
+way_accepts base coll k (Selecting search p shows) sights ready way = accepts base coll k (find_one (filter_tree search.wanted.filter) search.sort shows) tt sights way.0
+way_accepts base coll k (Listing search p part) sights ready way = accepts base coll k (find (filter_tree search.wanted.filter) search.sort part.projection (paging part)) tt sights way.0
+way_accepts base coll k (Counting w last n) sights ready way = accepts base coll k (count_documents (filter_tree w.filter)) tt sights way.0
+way_accepts base coll k (Choosing u p) sights ready way = way.0.1.0
+way_accepts base coll k (Changing u read d) sights ready way = way.0.1.0
+way_accepts base coll k (Seeking d p) sights ready way = way.0.1.0
+way_accepts base coll k (Deleting d read id) sights ready way = way.0.1.0
+way_accepts base coll k (Paging many stand) sights ready way =
+    many_accepts base coll k (filter_tree many.wanted.filter) many.doing many.page.value way.1.4 ready.0.may sights way.0.0 ∙ sym way.1.3.modified
+way_accepts base coll k (Trying many stand attempt) sights ready way =
+    many_accepts base coll k (filter_tree many.wanted.filter) many.doing many.page.value way.1.2 ready.0.may sights way.0.0 ∙ sym way.1.1.stands.modified
+way_accepts base coll k (Retrying many stand id) sights ready way =
+    many_accepts base coll k (filter_tree many.wanted.filter) many.doing many.page.value way.1.2 ready.0.may sights way.0.0 ∙ sym way.1.1.stands.modified
+way_accepts base coll k (Done reply) sights ready way = absurd ready
 
 -- entries of others
 pub stands_longer : (start : Option Base) (H more : List Entry) (task : Task) → NoWork task.session more → StandsOn start H task → StandsOn start (H ++ more) task

@@ -287,54 +287,54 @@ module _ (base : State) (coll : Name) (k : ℕ) (f : FilterTree) (doing : Doing)
 
 -- ---- the two commands
 
-module _ (base : State) (coll : Name) (k : ℕ) (moment : ℤ) (f : FilterTree) where
-  module _ (doing : Doing) (page : Option PageState) (c : CommandTree) (parts : (sights : List Sight) → IsPartOf base coll k moment c sights → AreSteps base coll k f doing (option_map (λ p. p.last) page) sights) where
+module _ (base : State) (coll : Name) (k : ℕ) (f : FilterTree) where
+  module _ (doing : Doing) (page : Option PageState) (c : CommandTree) (parts : (sights : List Sight) → IsPartOf base coll k c sights → AreSteps base coll k f doing (option_map (λ p. p.last) page) sights) where
     abbrev at : List Sight → Standing
     at sights = standing base coll f doing (option_map (λ p. p.last) page) sights
 
     -- what a command of turns answers, and where it stops
-    served : ((sights : List Sight) (reply : Reply) → Answers base coll k moment c sights reply → Ends doing page (at sights) (turn doing (at sights)) reply)
-        → ((s : Sight) (earlier : List Sight) (error : ErrorItem) → Stops base coll k (Marks base coll k moment c earlier) (IsToWrite base coll k moment c earlier) s.item s error
+    served : ((sights : List Sight) (reply : Reply) → Answers base coll k c sights reply → Ends doing page (at sights) (turn doing (at sights)) reply)
+        → ((s : Sight) (earlier : List Sight) (error : ErrorItem) → Stops base coll k (Marks base coll k c earlier) (IsToWrite base coll k c earlier) s.item s error
         → Stops base coll k (MarksTurn (turn doing (at earlier))) (IsWrite (turn doing (at earlier))) s.item s error)
-        → ((sights : List Sight) → done_by base coll k moment c sights ≡ so_far_of doing (at sights))
-        → (sights : List Sight) (reply : Reply) → Each (λ s. ascends (rows_now base coll s) ≡ true) sights → Serves base coll k moment c sights reply → AreTaken base coll k f doing page sights reply
+        → ((sights : List Sight) → done_by base coll k c sights ≡ so_far_of doing (at sights))
+        → (sights : List Sight) (reply : Reply) → Each (λ s. ascends (rows_now base coll s) ≡ true) sights → Serves base coll k c sights reply → AreTaken base coll k f doing page sights reply
     served answers stops before sights reply sorted h = ⊎_elim
         (λ a. taken_answered base coll k f doing page sights sorted (parts sights a.0) reply (answers sights reply a.1))
         (λ more. ⊎_elim
-        (λ (z : (error : ErrorItem) × IsStopped base coll k moment c sights error × IsRefusalAfter (done_before base coll k moment c sights) error reply). stopped sights sorted z.0 z.1 z.2)
+        (λ (z : (error : ErrorItem) × IsStopped base coll k c sights error × IsRefusalAfter (done_before base coll k c sights) error reply). stopped sights sorted z.0 z.1 z.2)
         (λ cut. ⊎_elim
         (λ part. taken_cut base coll k f doing page sights sorted (parts sights part) reply cut.1)
-        (λ (z : (error : ErrorItem) × IsStopped base coll k moment c sights error). stopped_cut sights sorted z.0 z.1 cut.1)
+        (λ (z : (error : ErrorItem) × IsStopped base coll k c sights error). stopped_cut sights sorted z.0 z.1 cut.1)
         cut.0)
         more)
         h
       where
-        stopped : (sights : List Sight) → Each (λ s. ascends (rows_now base coll s) ≡ true) sights → (error : ErrorItem) → IsStopped base coll k moment c sights error
-            → IsRefusalAfter (done_before base coll k moment c sights) error reply → AreTaken base coll k f doing page sights reply
+        stopped : (sights : List Sight) → Each (λ s. ascends (rows_now base coll s) ≡ true) sights → (error : ErrorItem) → IsStopped base coll k c sights error
+            → IsRefusalAfter (done_before base coll k c sights) error reply → AreTaken base coll k f doing page sights reply
         stopped [] sorted error h e = absurd h
         stopped (s ∷ earlier) sorted error h e =
             taken_stopped base coll k f doing page earlier sorted.1 (parts earlier h.0) s error (stops s earlier error h.2) reply (subst (λ o. IsRefusalAfter o error reply) (before earlier) e)
 
-        stopped_cut : (sights : List Sight) → Each (λ s. ascends (rows_now base coll s) ≡ true) sights → (error : ErrorItem) → IsStopped base coll k moment c sights error
+        stopped_cut : (sights : List Sight) → Each (λ s. ascends (rows_now base coll s) ≡ true) sights → (error : ErrorItem) → IsStopped base coll k c sights error
             → reply ≡ NoMemory (accepted sights) → AreTaken base coll k f doing page sights reply
         stopped_cut [] sorted error h e = absurd h
         stopped_cut (s ∷ earlier) sorted error h e = taken_stopped_cut base coll k f doing page earlier sorted.1 (parts earlier h.0) s error (stops s earlier error h.2) reply e
 
-  update_steps : (u : List Clause) (page : Option PageState) (sights : List Sight) → IsPartOf base coll k moment (update_many f u page) sights → AreSteps base coll k f (updates u moment) (option_map (λ p. p.last) page) sights
+  update_steps : (u : List Clause) (page : Option PageState) (sights : List Sight) → IsPartOf base coll k (update_many f u page) sights → AreSteps base coll k f (updates u moment) (option_map (λ p. p.last) page) sights
   update_steps u page [] h = tt
   update_steps u page (s ∷ earlier) h = (update_steps u page earlier h.0, h.2)
 
-  delete_steps : (sights : List Sight) → IsPartOf base coll k moment (delete_many f) sights → AreSteps base coll k f deletes None sights
+  delete_steps : (sights : List Sight) → IsPartOf base coll k (delete_many f) sights → AreSteps base coll k f deletes None sights
   delete_steps [] h = tt
   delete_steps (s ∷ earlier) h = (delete_steps earlier h.0, h.2)
 
   -- what was served, on a base whose rows are in order of id
-  pub updates_taken : (H : List Entry) → InOrder base.collections → (u : List Clause) (page : Option PageState) (trace : List Item) (reply : Reply) → IsServed base H coll k moment (update_many f u page) trace reply
+  pub updates_taken : (H : List Entry) → InOrder base.collections → (u : List Clause) (page : Option PageState) (trace : List Item) (reply : Reply) → IsServed base H coll k (update_many f u page) trace reply
       → AreTaken base coll k f (updates u moment) page (sights H trace) reply
   updates_taken H sorted u page trace reply h =
       served (updates u moment) page (update_many f u page) (update_steps u page) (λ sights reply a. a) (λ s earlier error a. a) (λ sights. refl) (sights H trace) reply (sights_rows base H coll sorted trace) h
 
-  pub deletes_taken : (H : List Entry) → InOrder base.collections → (trace : List Item) (reply : Reply) → IsServed base H coll k moment (delete_many f) trace reply
+  pub deletes_taken : (H : List Entry) → InOrder base.collections → (trace : List Item) (reply : Reply) → IsServed base H coll k (delete_many f) trace reply
       → AreTaken base coll k f deletes None (sights H trace) reply
   deletes_taken H sorted trace reply h =
       served deletes None (delete_many f) delete_steps (λ sights reply a. a) (λ s earlier error a. a) (λ sights. refl) (sights H trace) reply (sights_rows base H coll sorted trace) h

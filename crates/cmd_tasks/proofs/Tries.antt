@@ -74,15 +74,15 @@ mark_stops base coll k P W H H' at after up (Wrote a) error same here is marks w
 mark_stops base coll k P W H H' at after up (Lost a read f) error same here is marks writes cause = absurd is
 mark_stops base coll k P W H H' at after up (Faulted a b c) error same here is marks writes cause = absurd is
 
-module _ (base : Base) (coll : Name) (k : ℕ) (moment : ℤ) (u : Updating) where
+module _ (base : Base) (coll : Name) (k : ℕ) (u : Updating) where
   abbrev pub f : FilterTree
   f = filter_tree u.search.wanted.filter
 
   abbrev sort : SortKeys
   sort = u.search.sort
 
-  module _ (read : ℕ) (d : Tree) (H : List Entry) (trace : List Item) (placed : IsPlaced k H trace) (lawful : IsJournal base H) (apart : AreApart base.collections) (way : IsUnderWay base coll k moment (Changing u read d) (sights H trace)) where
-    abbrev pub kept : IsChosen base coll k moment u read d (sights H trace)
+  module _ (read : ℕ) (d : Tree) (H : List Entry) (trace : List Item) (placed : IsPlaced k H trace) (lawful : IsJournal base H) (apart : AreApart base.collections) (way : IsUnderWay base coll k (Changing u read d) (sights H trace)) where
+    abbrev pub kept : IsChosen base coll k u read d (sights H trace)
     kept = way.1
 
     abbrev pub earlier : List Sight
@@ -95,11 +95,11 @@ module _ (base : Base) (coll : Name) (k : ℕ) (moment : ℤ) (u : Updating) whe
         let same = still_same base coll k f H trace placed kept.x kept.seen once lawful apart old v (ap (λ (i : Tree). version (replay base H) coll i) kept.same_id ∙ there) (sym (same_some read v.tx is) ∙ sym kept.number) in
         ap (λ (z : Version). apply u.updates z.doc u.moment false) same ∙ subst (λ (n : ℤ). apply u.updates kept.x.doc n false ≡ Ok d) (sym kept.kept.moment_is) kept.makes.0
 
-    chooses : (s : Sight) → (IsWon base coll k kept.x (Update u.updates moment d) s ⊎ IsLost base coll k kept.seen.look kept.x s) → IsPartOf base coll k moment (updating u) (s ∷ earlier)
+    chooses : (s : Sight) → (IsWon base coll k kept.x (Update u.updates moment d) s ⊎ IsLost base coll k kept.seen.look kept.x s) → IsPartOf base coll k (updating u) (s ∷ earlier)
     chooses s attempt = (way.0.0, way.0.1, match_some (chosen base coll k f sort earlier) kept.x _ _ kept.is (d, kept.makes, (kept.seen.look, kept.seen.among, kept.seen.shows, attempt)))
 
     pub change_written : GivenOnce → IsOld base → (H' : List Entry) (at tx : ℕ) (key : Tree) → key ≡ id_of d → H' ≡ H ++ Changed k coll key (Update u.updates u.moment d) (Some read) tx ∷ [] → at ≡ length H
-        → number_at (replay base H) coll key ≡ Some read → (r : Reply) → r ≡ reply.Updated 1 1 → Serves base coll k moment (updating u) (sight H' (Wrote at) ∷ earlier) r
+        → number_at (replay base H) coll key ≡ Some read → (r : Reply) → r ≡ reply.Updated 1 1 → Serves base coll k (updating u) (sight H' (Wrote at) ∷ earlier) r
     change_written once old H' at tx key key_is longer here stands r told =
         let e : Entry = Changed k coll key (Update u.updates u.moment d) (Some read) tx in
         let past = saw_before H H' e at longer here in
@@ -113,7 +113,7 @@ module _ (base : Base) (coll : Name) (k : ℕ) (moment : ℤ) (u : Updating) whe
         inl (chooses (sight H' (Wrote at)) (inl won), inl ((let a = way.0.1.0 in omega arith), told))
 
     pub loses_leads : Touched → (H' : List Entry) (at : ℕ) (found : Option ℕ) (key : Tree) (o : Moved) → key ≡ id_of d → H' ≡ H → at ≡ length H → found ≢ Some read → number_at (replay base H) coll key ≡ found → LosesTo at read found u o
-        → Leads base coll k moment H' (Changing u read d) earlier o
+        → Leads base coll k H' (Changing u read d) earlier o
     loses_leads touched H' at found key o key_is same here other stands t = go o t
       where
         s : Sight
@@ -134,7 +134,7 @@ module _ (base : Base) (coll : Name) (k : ℕ) (moment : ℤ) (u : Updating) whe
           between = ap (λ (l : List Entry). list_any (comes_between coll k kept.x.id) (drop (length kept.seen.look.past) l)) past ∙ came_between base coll k f H trace placed kept.x kept.seen touched lawful apart (λ e. other (sym there ∙ (e ∙ ap (λ (n : ℕ). Some n) kept.number)));
         }
 
-        part : IsPartOf base coll k moment (updating u) (s ∷ earlier)
+        part : IsPartOf base coll k (updating u) (s ∷ earlier)
         part = chooses s (inr is_lost)
 
         still_none : accepted (s ∷ earlier) ≡ 0
@@ -149,12 +149,12 @@ module _ (base : Base) (coll : Name) (k : ℕ) (moment : ℤ) (u : Updating) whe
         in_order : with_loss u read found ≡ reverse (losses (s ∷ earlier))
         in_order = sym (reverse-reverse (with_loss u read found)) ∙ ap reverse lost_more
 
-        go : (o' : Moved) → LosesTo at read found u o' → Leads base coll k moment H' (Changing u read d) earlier o'
-        go (m.Goes i w) t' = subst (λ (z : Item × State). Leads base coll k moment H' (Changing u read d) earlier (m.Goes z.0 z.1)) (λ j. (sym t'.3 j, sym t'.4.2 j)) (
+        go : (o' : Moved) → LosesTo at read found u o' → Leads base coll k H' (Changing u read d) earlier o'
+        go (m.Goes i w) t' = subst (λ (z : Item × State). Leads base coll k H' (Changing u read d) earlier (m.Goes z.0 z.1)) (λ j. (sym t'.3 j, sym t'.4.2 j)) (
           (part, (still_none, (let a = size in let b = ap length t'.1 in let c = t'.2 in omega arith), match_none (chosen base coll k f sort (s ∷ earlier)) _ _ (none_first sort) tt)),
           (fresh_searching base coll None u.search t'.4.0 t'.4.1, none_first sort, record { moment_is = kept.kept.moment_is; lost_are = ap reverse t'.1 ∙ lost_more }),
         )
-        go (m.Ends i r) t' = subst (λ (z : Item). Leads base coll k moment H' (Changing u read d) earlier (m.Ends z r)) (sym t'.0) (⊎_elim
+        go (m.Ends i r) t' = subst (λ (z : Item). Leads base coll k H' (Changing u read d) earlier (m.Ends z r)) (sym t'.0) (⊎_elim
             (λ (four : (4 ≤ length (with_loss u read found)) × Refuses (errors.lost_writes (with_loss u read found)) r). ⊎_elim
             (λ (told : IsRefusal (errors.lost_writes (with_loss u read found)) r). inl (part, inr (inl ((let a = size in let b = four.0 in let c = way.0.1.1 in omega arith), subst (λ (l : List Loss). IsRefusal (errors.lost_writes l) r) in_order told))))
             (λ (cut : r ≡ reply.NoMemory 0). inr (inr (inl part, cut ∙ ap reply.NoMemory (sym still_none)))) four.1)
@@ -163,32 +163,32 @@ module _ (base : Base) (coll : Name) (k : ℕ) (moment : ℤ) (u : Updating) whe
 
     pub change_marked : (H' : List Entry) (at : ℕ) (after up : Tree) (error : ErrorItem) (o : Moved) → after ≡ id_of d → up ≡ id_of d → H' ≡ H → at ≡ length H
         → IsNoWrite coll (replay base H) error
-        → EndsMarked at (Some after) (Some up) (Refuses error) o → Leads base coll k moment H' (Changing u read d) earlier o
+        → EndsMarked at (Some after) (Some up) (Refuses error) o → Leads base coll k H' (Changing u read d) earlier o
     change_marked H' at after up error (m.Goes i w) after_is up_is same here cause is = absurd is
-    change_marked H' at after up error (m.Ends i r) after_is up_is same here cause is = stopped_serves base coll k moment (updating u) tt earlier (sight H' i) error r way.0
-        (mark_stops base coll k (Marks base coll k moment (updating u) earlier) (IsToWrite base coll k moment (updating u) earlier) H H' at (Some after) (Some up) i error same here is.0
+    change_marked H' at after up error (m.Ends i r) after_is up_is same here cause is = stopped_serves base coll k (updating u) tt earlier (sight H' i) error r way.0
+        (mark_stops base coll k (Marks base coll k (updating u) earlier) (IsToWrite base coll k (updating u) earlier) H H' at (Some after) (Some up) i error same here is.0
         (match_some (chosen base coll k f sort earlier) kept.x _ _ kept.is (ap (λ (t : Tree). Some t) (after_is ∙ sym kept.same_id), ap (λ (t : Tree). Some t) (up_is ∙ sym kept.same_id)))
         (some_is (chosen base coll k f sort earlier) kept.x kept.is) cause) is.1
     change_marked H' at after up error m.NoMemory after_is up_is same here cause is = absurd is
 
     pub change_failed : (H' : List Entry) (at before count : ℕ) (o : Moved) → H' ≡ H ++ Failed k before count ∷ [] → at ≡ length H
-        → EndsSo (Faulted at before count) (Refuses (errors.store_fault before count)) o → Leads base coll k moment H' (Changing u read d) earlier o
+        → EndsSo (Faulted at before count) (Refuses (errors.store_fault before count)) o → Leads base coll k H' (Changing u read d) earlier o
     change_failed H' at before count (m.Goes i w) longer here is = absurd is
     change_failed H' at before count (m.Ends i r) longer here is =
-        subst (λ (z : Item). Serves base coll k moment (updating u) (sight H' z ∷ earlier) r) (sym is.0) (failed_serves base coll k moment (updating u) tt earlier H H' at before count r way.0 longer here is.1)
+        subst (λ (z : Item). Serves base coll k (updating u) (sight H' z ∷ earlier) r) (sym is.0) (failed_serves base coll k (updating u) tt earlier H H' at before count r way.0 longer here is.1)
     change_failed H' at before count m.NoMemory longer here is = absurd is
 
 -- what a state asks of the store, by where it stands
-pub fits_so : GivenOnce → (base : Base) (coll : Name) (k : ℕ) (moment : ℤ) (w : State) (H : List Entry) (trace : List Item) → IsPlaced k H trace → IsJournal base H → AreApart base.collections → IsOld base → IsUnderWay base coll k moment w (sights H trace) → Fits (replay base H) coll w
-fits_so once base coll k moment (Inserting d) H trace placed lawful apart old way = tt
-fits_so once base coll k moment (Selecting search p shows) H trace placed lawful apart old way = tt
-fits_so once base coll k moment (Listing search p part) H trace placed lawful apart old way = tt
-fits_so once base coll k moment (Counting w last n) H trace placed lawful apart old way = tt
-fits_so once base coll k moment (Choosing u p) H trace placed lawful apart old way = tt
-fits_so once base coll k moment (Changing u read d) H trace placed lawful apart old way = fits_now base coll k moment u read d H trace placed lawful apart way once old (version (replay base H) coll (id_of d)) refl
-fits_so once base coll k moment (Seeking d p) H trace placed lawful apart old way = tt
-fits_so once base coll k moment (Deleting d read id) H trace placed lawful apart old way = tt
-fits_so once base coll k moment (Paging many stand) H trace placed lawful apart old way = tt
-fits_so once base coll k moment (Trying many stand attempt) H trace placed lawful apart old way = fits_attempt base coll (doing_of many.doing) stand attempt _ H trace way.1.0 way.1.1 once lawful apart old (version (replay base H) coll attempt.id) refl
-fits_so once base coll k moment (Retrying many stand id) H trace placed lawful apart old way = tt
-fits_so once base coll k moment (Done r) H trace placed lawful apart old way = tt
+pub fits_so : GivenOnce → (base : Base) (coll : Name) (k : ℕ) (w : State) (H : List Entry) (trace : List Item) → IsPlaced k H trace → IsJournal base H → AreApart base.collections → IsOld base → IsUnderWay base coll k w (sights H trace) → Fits (replay base H) coll w
+fits_so once base coll k (Inserting d) H trace placed lawful apart old way = tt
+fits_so once base coll k (Selecting search p shows) H trace placed lawful apart old way = tt
+fits_so once base coll k (Listing search p part) H trace placed lawful apart old way = tt
+fits_so once base coll k (Counting w last n) H trace placed lawful apart old way = tt
+fits_so once base coll k (Choosing u p) H trace placed lawful apart old way = tt
+fits_so once base coll k (Changing u read d) H trace placed lawful apart old way = fits_now base coll k u read d H trace placed lawful apart way once old (version (replay base H) coll (id_of d)) refl
+fits_so once base coll k (Seeking d p) H trace placed lawful apart old way = tt
+fits_so once base coll k (Deleting d read id) H trace placed lawful apart old way = tt
+fits_so once base coll k (Paging many stand) H trace placed lawful apart old way = tt
+fits_so once base coll k (Trying many stand attempt) H trace placed lawful apart old way = fits_attempt base coll (doing_of many.doing) stand attempt _ H trace way.1.0 way.1.1 once lawful apart old (version (replay base H) coll attempt.id) refl
+fits_so once base coll k (Retrying many stand id) H trace placed lawful apart old way = tt
+fits_so once base coll k (Done r) H trace placed lawful apart old way = tt

@@ -3,6 +3,10 @@ pub mod Attempts
 pub mod Searches
 pub mod Part
 pub mod Doing
+pub mod Ids
+pub mod Jobs
+pub mod Insertions
+pub mod Outcomes
 pub mod Taking
 pub mod Turns
 pub mod Served
@@ -14,7 +18,7 @@ pub mod Wanted
 pub mod Looking
 pub mod Finding
 pub mod Searching
-pub mod Deleting
+pub mod Ones
 pub mod Many
 pub mod Moves
 pub mod Going

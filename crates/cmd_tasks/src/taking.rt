@@ -21,7 +21,8 @@ ghost use Rattle.cmd_tasks.specs.Many.{doing_of, IsMany, IsStand, IsStanding};
 ghost use Rattle.cmd_tasks.specs.Going.{IsCounted, tally, Meets, Settles, SettlesReady, GoesOnFrom, GoesReady, RefusesAfter};
 
 use crate::trace::Item;
-use crate::updates::declined;
+use crate::meeting::{Met, declined, meet};
+use crate::upserts::upserted_document;
 use crate::work::{Attempt, Doing, Many, Moved, Stand, State};
 use json_tree::{Doc, DocId, Text};
 use reply_env::{Reply, SoFar};
@@ -33,66 +34,6 @@ use view_sort::{PageState, ViewFault};
 
 /// So many documents are counted at most.
 const MOST_COUNTED: u64 = 20;
-
-/// The change that writes this new document.
-fn update_of(
-    alloc: Global,
-    updates: &Updates,
-    moment: i64,
-    doc: Doc,
-) -> Result<Option<Change>, UpdateFault>
-    ensures ok { IfOk result (λ written. written ≡ Some (changes.Update updates.now moment doc)) }
-    ensures err { IfErr result (λ fault. fault ≡ faults.NoMemory) }
-{
-    match updates.try_copy(alloc) {
-        Ok(updates) => Ok(Some(Change::Update {
-            updates,
-            moment,
-            doc,
-        })),
-        Err(_) => Err(UpdateFault::NoMemory),
-    }
-}
-
-/// What updates write in the place of a document, if they change it.
-fn updated(
-    alloc: Global,
-    updates: &Updates,
-    moment: i64,
-    doc: &Doc,
-) -> Result<Option<Change>, UpdateFault>
-    ensures told { Gives (λ (written : Option Written). written) result (update_to updates.now moment doc.now (apply updates.now doc.now moment false)) }
-    ensures fits { IfOk result (λ written. IfSome written (λ c. FitsId (id_of doc.now) (new_doc c))) }
-{
-    ids_are_kept();
-    doc.value();
-    match updates.apply(alloc, doc, moment, false) {
-        Ok(
-            Applied {
-                doc: new,
-                changed: true,
-            },
-        ) => update_of(alloc, updates, moment, new),
-        Ok(
-            Applied {
-                doc: _,
-                changed: false,
-            },
-        ) => Ok(None),
-        Err(fault) => Err(fault),
-    }
-}
-
-/// What is written in the place of a document, if anything is.
-fn change_of(alloc: Global, doing: &Doing, doc: &Doc) -> Result<Option<Change>, UpdateFault>
-    ensures told { Gives (λ (written : Option Written). written) result (change (doing_of doing.now) doc.now) }
-    ensures fits { IfOk result (λ written. IfSome written (λ c. FitsId (id_of doc.now) (new_doc c))) }
-{
-    match doing {
-        Doing::Updates { updates, moment } => updated(alloc, updates, *moment, doc),
-        Doing::Deletes => Ok(Some(Change::Delete)),
-    }
-}
 
 /// One document is counted, of which so many were changed.
 pub(crate) fn counted(alloc: Global, stand: Stand, id: DocId, changed: u64) -> Stand
@@ -116,33 +57,6 @@ pub(crate) fn counted(alloc: Global, stand: Stand, id: DocId, changed: u64) -> S
         matched: matched + 1,
         modified: modified + changed,
         last: Some(id),
-    }
-}
-
-/// What a row's document asks for: no write, since it would stay as it is, or an attempt; or its change is refused, or
-/// memory was wanting.
-#[derive(Drop)]
-enum Met {
-    Unchanged(DocId),
-    Changed(Attempt),
-    Refused(UpdateFault),
-}
-
-fn meet(alloc: Global, doing: &Doing, row: &Row) -> Met
-    requires { IsShort (id_of row.now.doc) }
-    ensures { Meets (doing_of doing.now) row.now result }
-{
-    let Ok(id) = row.id().try_copy(alloc) else {
-        return Met::Refused(UpdateFault::NoMemory);
-    };
-    match change_of(alloc, doing, row.doc()) {
-        Ok(Some(change)) => Met::Changed(Attempt {
-            id,
-            read: row.tx(),
-            change,
-        }),
-        Ok(None) => Met::Unchanged(id),
-        Err(fault) => Met::Refused(fault),
     }
 }
 
@@ -183,7 +97,7 @@ fn so_far(doing: &Doing, stand: &Stand) -> Option<SoFar>
         return None;
     }
     match doing {
-        Doing::Updates { .. } => Some(SoFar::Updated {
+        Doing::Makes { .. } => Some(SoFar::Updated {
             matched: stand.matched,
             modified: stand.modified,
         }),
@@ -248,6 +162,7 @@ fn updated_many(alloc: Global, given: u64, stand: Stand, more: bool) -> Reply
         return Reply::UpdatedMany {
             matched,
             modified,
+            upserted: None,
             state: None,
         };
     }
@@ -255,6 +170,7 @@ fn updated_many(alloc: Global, given: u64, stand: Stand, more: bool) -> Reply
         Ok(state) => Reply::UpdatedMany {
             matched,
             modified,
+            upserted: None,
             state,
         },
         Err(_) => Reply::NoMemory { accepted: modified },
@@ -267,7 +183,7 @@ fn done(alloc: Global, many: Many, stand: Stand, more: bool) -> Reply
     ensures { (result ≡ done_reply (doing_of many.doing) many.page.value (tally stand) more) ⊎ (result ≡ replies.NoMemory stand.modified) }
 {
     match many.doing {
-        Doing::Updates { .. } => updated_many(alloc, many.given, stand, more),
+        Doing::Makes { .. } => updated_many(alloc, many.given, stand, more),
         Doing::Deletes => Reply::DeletedMany {
             deleted: stand.modified,
             more,
