@@ -35,13 +35,13 @@ pub fn others_may_append()
 /// The trace of a task that stands, with the reply for want of memory, was served.
 pub fn a_task_may_be_cut_off()
     ensures { (start : Option Base) (history : List Journaled) (task : Tasked) → StandsOn start history task
-        → ForSome start (λ base. IsServed base history task.coll task.session task.trace.moment (command_tree task.command.value) task.trace.items.items (NoMemory (accepted_by task.state))) }
+        → ForSome start (λ base. IsServed base history (name_of task.coll) task.session task.trace.moment (ids_of task) (command_tree task.command.value) task.trace.items.items (NoMemory (accepted_by task.state))) }
 {}
 
 /// What was served stays served in every longer history.
 pub fn what_was_served_stays()
-    ensures { (base : Base) (history more : List Journaled) (coll : Name) (k : ℕ) (moment : ℤ) (c : CommandTree) (trace : List Seen) (reply : Answer)
-        → AreWithin (length history) trace → IsServed base history coll k moment c trace reply → IsServed base (history ++ more) coll k moment c trace reply }
+    ensures { (base : Base) (history more : List Journaled) (coll : Name) (k : ℕ) (moment : ℤ) (ids : List Tree) (c : CommandTree) (trace : List Seen) (reply : Answer)
+        → AreWithin (length history) trace → IsServed base history coll k moment ids c trace reply → IsServed base (history ++ more) coll k moment ids c trace reply }
 {}
 
 /// A session stays one in every longer history to which others alone have added.

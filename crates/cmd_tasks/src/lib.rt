@@ -4,6 +4,7 @@
 mod begin;
 mod collections;
 mod finds;
+mod first;
 mod glance;
 mod ids;
 mod insertions;
