@@ -31,3 +31,8 @@ pub six_pieces : (before one two three four five six a b c d e f : List ℕ) →
     → six ≡ before ++ (a ++ b ++ c ++ d ++ e ++ f)
 six_pieces before one two three four five six a b c d e f p q r s t u =
     two_pieces before five six (a ++ b ++ c ++ d ++ e) f (five_pieces before one two three four five a b c d e p q r s t) u
+
+pub seven_pieces : (before one two three four five six seven a b c d e f g : List ℕ) → one ≡ before ++ a → two ≡ one ++ b → three ≡ two ++ c → four ≡ three ++ d → five ≡ four ++ e → six ≡ five ++ f → seven ≡ six ++ g
+    → seven ≡ before ++ (a ++ b ++ c ++ d ++ e ++ f ++ g)
+seven_pieces before one two three four five six seven a b c d e f g p q r s t u v =
+    two_pieces before six seven (a ++ b ++ c ++ d ++ e ++ f) g (six_pieces before one two three four five six a b c d e f p q r s t u) v
