@@ -14,7 +14,7 @@ part_more f xs i d before here after within so_far now =
 pub with_comma : (here comma after part : List ℕ) → comma ≡ here ++ 44 ∷ [] → after ≡ comma ++ part → after ≡ here ++ 44 ∷ part
 with_comma here comma after part p q = q ∙ ap (λ bytes. bytes ++ part) p ∙ append_assoc here (44 ∷ []) part
 
-two_pieces : (before one two a b : List ℕ) → one ≡ before ++ a → two ≡ one ++ b → two ≡ before ++ (a ++ b)
+pub two_pieces : (before one two a b : List ℕ) → one ≡ before ++ a → two ≡ one ++ b → two ≡ before ++ (a ++ b)
 two_pieces before one two a b p q = q ∙ ap (λ xs. xs ++ b) p ∙ append_assoc before a b
 
 pub three_pieces : (before one two three a b c : List ℕ) → one ≡ before ++ a → two ≡ one ++ b → three ≡ two ++ c → three ≡ before ++ (a ++ b ++ c)

@@ -6,7 +6,10 @@ ghost use Rattle.reply_env.specs.Reply.{with_commas, view_text, listed_text, mor
 
 use crate::fault::ReplyFault;
 use crate::fixed::no_memory_reply;
-use crate::print_parts::{print_decimal, print_deleted, print_errors, print_inserted, print_more, print_names, print_page, print_status, print_updated, print_view};
+use crate::print_parts::{
+    print_decimal, print_deleted, print_errors, print_inserted, print_more, print_names,
+    print_page, print_status, print_updated, print_view,
+};
 use crate::reply::{ErrorItem, Reply, SoFar};
 use json_tree::{DocId, Text, Value};
 use std::alloc::{AllocError, Global};

@@ -166,7 +166,8 @@ fn print_upserted(upserted: &Option<DocId>, out: &mut Vec<u8>) -> Result<(), All
         None => Ok(()),
         Some(id) => {
             out.extend_from_slice(b",\"upsertedId\":")?;
-            print_id(id, out)
+            print_id(id, out)?;
+            Ok(())
         }
     }
 }
@@ -222,7 +223,9 @@ fn print_so_far(so_far: &SoFar, out: &mut Vec<u8>) -> Result<(), AllocError>
 {
     match so_far {
         SoFar::Inserted(ids) => print_inserted(ids.as_slice(), out),
-        SoFar::Updated { matched, modified } => print_updated(*matched, *modified, &None, &None, out),
+        SoFar::Updated { matched, modified } => print_updated(
+            *matched, *modified, &None, &None, out,
+        ),
         SoFar::Deleted { deleted } => print_deleted(*deleted, false, out),
     }
 }
@@ -296,7 +299,11 @@ fn print_state(state: &Option<Text>, out: &mut Vec<u8>) -> Result<(), AllocError
 }
 
 #[tactic(auto, using(crate::proofs::Kept::kept))]
-pub(crate) fn print_page(views: &[Value], state: &Option<Text>, out: &mut Vec<u8>) -> Result<(), AllocError>
+pub(crate) fn print_page(
+    views: &[Value],
+    state: &Option<Text>,
+    out: &mut Vec<u8>,
+) -> Result<(), AllocError>
     ensures ok { OnOk result (out.new.items ≡ out.old.items ++ listed_text views.now state.now) }
     ensures kept { OnErr result (Extends out.old.items out.new.items) }
 {
