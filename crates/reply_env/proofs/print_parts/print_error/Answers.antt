@@ -3,7 +3,7 @@ use Rattle.json_text.specs.Print.{string_text, Extends}
 use Rattle.name_tables.specs.Code.{code_text}
 use Rattle.reply_env.proofs.Pieces.{five_pieces}
 use Rattle.reply_env.proofs.Kept.{kept-past}
-use Rattle.reply_env.proofs.print.print_error.Goals as goal
+use Rattle.reply_env.proofs.print_parts.print_error.Goals as goal
 
 pub returns-clause-ok : goal.returns-clause-ok
 returns-clause-ok c =

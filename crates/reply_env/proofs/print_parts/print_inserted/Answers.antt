@@ -2,7 +2,7 @@ use Rattle.std.proofs.Common.{codes}
 use Rattle.json_text.specs.Print.{text_of}
 use Rattle.reply_env.specs.Reply.{with_commas}
 use Rattle.reply_env.proofs.Pieces.{three_pieces}
-use Rattle.reply_env.proofs.print.print_inserted.Goals as goal
+use Rattle.reply_env.proofs.print_parts.print_inserted.Goals as goal
 
 pub returns-clause-ok : goal.returns-clause-ok
 returns-clause-ok c =

@@ -1,7 +1,7 @@
 use Rattle.std.proofs.Common.{codes}
 use Rattle.reply_env.specs.Reply.{with_commas, error_text}
 use Rattle.reply_env.proofs.Pieces.{three_pieces}
-use Rattle.reply_env.proofs.print.print_errors.Goals as goal
+use Rattle.reply_env.proofs.print_parts.print_errors.Goals as goal
 
 pub returns-clause-ok : goal.returns-clause-ok
 returns-clause-ok c =

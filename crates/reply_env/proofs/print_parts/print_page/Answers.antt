@@ -4,7 +4,7 @@ use Rattle.json_text.specs.Print.{text_of, Extends}
 use Rattle.reply_env.specs.Reply.{with_commas, state_text}
 use Rattle.reply_env.proofs.Pieces.{five_pieces}
 use Rattle.reply_env.proofs.Kept.{kept-past}
-use Rattle.reply_env.proofs.print.print_page.Goals as goal
+use Rattle.reply_env.proofs.print_parts.print_page.Goals as goal
 
 pub returns-clause-ok : goal.returns-clause-ok
 returns-clause-ok c =

@@ -1,7 +1,7 @@
 use Rattle.std.proofs.Common.{rules}
 use Rattle.json_text.specs.Print.{Extends}
 use Rattle.reply_env.proofs.Kept.{kept-past}
-use Rattle.reply_env.proofs.print.print_further_ids.Goals as goal
+use Rattle.reply_env.proofs.print_parts.print_further_ids.Goals as goal
 
 pub returns-in_err-print_id-clause-kept : goal.returns-in_err-print_id-clause-kept
 returns-in_err-print_id-clause-kept c =

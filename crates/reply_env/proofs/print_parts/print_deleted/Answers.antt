@@ -3,7 +3,7 @@ use Rattle.json_text.specs.Print.{Extends}
 use Rattle.reply_env.specs.Reply.{more_text}
 use Rattle.reply_env.proofs.Pieces.{four_pieces}
 use Rattle.reply_env.proofs.Kept.{kept-past}
-use Rattle.reply_env.proofs.print.print_deleted.Goals as goal
+use Rattle.reply_env.proofs.print_parts.print_deleted.Goals as goal
 
 pub returns-clause-ok : goal.returns-clause-ok
 returns-clause-ok c =

@@ -3,7 +3,7 @@ use Rattle.json_text.specs.Print.{Extends}
 use Rattle.reply_env.specs.Reply.{error_text}
 use Rattle.reply_env.proofs.Pieces.{part_more, with_comma}
 use Rattle.reply_env.proofs.Kept.{kept-past}
-use Rattle.reply_env.proofs.print.print_further_errors.Goals as goal
+use Rattle.reply_env.proofs.print_parts.print_further_errors.Goals as goal
 
 pub loop-error-preserved : goal.loop-error-preserved
 loop-error-preserved c =
