@@ -14,7 +14,7 @@ use Rattle.cmd_grammar.specs.Refused.{collection_named, keyspace_refusal, collec
 use Rattle.cmd_grammar.specs.Asked.{command_of, is_of_documents, target, IsPlaced}
 use Rattle.cmd_grammar.specs.declared.name.Name.{Name}
 use Rattle.cmd_grammar.specs.declared.name.Name.TheVariants.{InsertOne, InsertMany, FindOne, Find, CountDocuments, UpdateOne, UpdateMany, DeleteOne, DeleteMany, FindOneAndUpdate, FindOneAndReplace, FindOneAndDelete, CreateCollection, FindCollections, DeleteCollection}
-use Rattle.cmd_grammar.proofs.Members.{Holds, has_new_name, has_old_name}
+use Rattle.cmd_grammar.proofs.Held.{Holds, has_new_name, has_old_name}
 use Rattle.cmd_grammar.proofs.Passing.{Passed}
 
 same_keyspace : (b : Bool) (own name : List ℕ) → (b ≡ true → name ≡ own) → (if b then None else Some (no_keyspace name)) ≡ None → name ≡ own
