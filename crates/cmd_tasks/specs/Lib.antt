@@ -23,6 +23,7 @@ pub mod Many
 pub mod Moves
 pub mod Going
 pub mod ManySteps
+pub mod First
 pub mod Stands
 pub mod Joined
 pub mod Tally

@@ -151,6 +151,7 @@ pub(crate) struct Many {
     pub(crate) wanted: Wanted,
     pub(crate) doing: Doing,
     pub(crate) given: u64,
+    pub(crate) is_first: bool,
     pub(crate) page: Snapshot<Option<PageState>>,
 }
 
