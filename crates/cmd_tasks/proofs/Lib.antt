@@ -13,6 +13,7 @@ mod Searching
 mod Requests
 mod Selecting
 mod Beginnings
+mod Drawing
 mod Accepted
 mod Standing
 mod Running
