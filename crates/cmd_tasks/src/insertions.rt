@@ -1,9 +1,11 @@
 // The steps of insertions: of the documents of a request, one in a step, or of one document since none matched.
 ghost use Rattle.std.specs.Prelude.{◌≡◌, ◌+◌, ◌<◌, ◌≤◌, Some, None, IfOk};
+ghost use Rattle.std.specs.Option.{ForSome};
 ghost use Rattle.col_keeper.specs.Tables.{KeepsLimits};
 ghost use Rattle.store_core.specs.Counts.{opened_in};
 ghost use Rattle.store_core.specs.Store.{IsLawful, SameBase};
 ghost use Rattle.store_core.specs.Growth.{Grows};
+ghost use Rattle.cmd_tasks.specs.Puts.{Puts, EndsPut};
 ghost use Rattle.cmd_tasks.specs.Moves.{Steps, Promises, IsInsertions};
 
 use crate::glance::refuse;
@@ -30,6 +32,8 @@ pub(crate) fn put_in_place<K: Keeper>(
 ) -> Moved
     requires known { by < opened_in store.old.journal }
     requires limits { KeepsLimits doc }
+    ensures puts { Puts by (K.failed store.old.keeper) (K.failed store.new.keeper) store.old.journal store.new.journal result }
+    ensures told { ForSome store.old.start (λ base. EndsPut base coll.now by store.new.journal doc reply result) }
     ensures base { SameBase store.old store.new }
     ensures grows { Grows (Some by) store.old.journal store.new.journal }
     ensures faults { K.failed store.old.keeper ≤ K.failed store.new.keeper }
