@@ -18,6 +18,7 @@ pub mod Wanted
 pub mod Looking
 pub mod Finding
 pub mod Searching
+pub mod Puts
 pub mod Ones
 pub mod Many
 pub mod Moves
