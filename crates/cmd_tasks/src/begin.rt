@@ -156,11 +156,13 @@ pub(crate) fn paging_over(
 {
     let snapshot = Snapshot::of(&page);
     let given = given_before(&page);
+    let is_first = page.is_none();
     State::Paging {
         many: Many {
             wanted: Wanted::new(alloc, filter),
             doing,
             given,
+            is_first,
             page: snapshot,
         },
         stand: stand_at(alloc, last_before(page)),
