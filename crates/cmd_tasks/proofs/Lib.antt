@@ -5,6 +5,7 @@ mod Listing
 mod Ranks
 mod Lasts
 mod Fresh
+mod Misses
 mod PageStates
 mod Glances
 mod Shorts
@@ -20,8 +21,10 @@ mod Opening
 pub mod Attempts
 pub mod Lookback
 mod Fitting
+mod Replies
 pub mod Rounds
 pub mod Tries
+mod Placings
 pub mod Contests
 mod Ascent
 mod Covering
@@ -30,7 +33,6 @@ mod Stepping
 mod Tallying
 mod Reaching
 mod Telling
-mod Deletions
 mod Settling
 mod Goings
 mod Waiting

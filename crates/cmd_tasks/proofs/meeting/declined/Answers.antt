@@ -1,5 +1,5 @@
 use Rattle.cmd_grammar.specs.Refused.{update_error as error_of}
-use Rattle.cmd_tasks.proofs.updates.declined.Goals as goal
+use Rattle.cmd_tasks.proofs.meeting.declined.Goals as goal
 
 pub returns : goal.returns
 returns c = record {
