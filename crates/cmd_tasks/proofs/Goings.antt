@@ -16,7 +16,7 @@ use Rattle.reply_env.specs.declared.reply.Reply.TheVariants.{UpdatedMany, Delete
 use Rattle.cmd_grammar.specs.Refused.{update_error}
 use Rattle.cmd_tasks.specs.Pages.{found_row}
 use Rattle.cmd_tasks.specs.Looking.{Refuses}
-use Rattle.cmd_tasks.specs.Doing.{Doing, makes, deletes}
+use Rattle.cmd_tasks.specs.Doing.{Doing, makes, deletes, upsert_of}
 use Rattle.cmd_tasks.specs.Taking.{Shown, Standing, Turn, inserts, is_done, is_refused, turn}
 use Rattle.cmd_tasks.specs.Turns.{so_far_of, state_behind, upsert_for, done_reply, Ends}
 use Rattle.cmd_tasks.specs.Many.{doing_of, put_for, IsStanding}
@@ -90,7 +90,11 @@ lists_on many item stand none more st h =
     let empty = empty_waiting stand st none h.0 in
     (refl, (refl, empty, sym h.0.is_whole ∙ more, emptied stand st empty h.0))
 
--- behind the first page nothing is inserted
+-- a document is inserted on the first page alone
+pub first_puts : (f : FilterTree) (doing : Doing) (page : Option PageState) → is_none page ≡ true → upsert_for f doing page ≡ upsert_of f doing
+first_puts f doing None first = refl
+first_puts f doing (Some p) first = cc
+
 pub later_puts_none : (f : FilterTree) (doing : Doing) (page : Option PageState) → is_none page ≡ false → upsert_for f doing page ≡ None
 later_puts_none f doing None later = cc
 later_puts_none f doing (Some p) later = refl

@@ -33,6 +33,10 @@ mod Telling
 mod Deletions
 mod Settling
 mod Goings
+mod Kept
+mod Turnings
+mod Upserted
+mod ManyPuts
 mod Waiting
 mod Apart
 mod Following
