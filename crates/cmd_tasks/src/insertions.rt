@@ -65,6 +65,7 @@ pub(crate) fn put_in_place<K: Keeper>(
 {
     limits_bound_ids();
     store.journal_len();
+    doc.value();
     let Ok(key) = doc.id().try_copy(alloc) else {
         return Moved::NoMemory;
     };
@@ -258,7 +259,7 @@ fn insert_doc<K: Keeper>(
     rest: Insertions,
 ) -> Moved
     requires known { by < opened_in store.old.journal }
-    requires limits { KeepsLimits next.doc }
+    requires doc { IsStorable next.doc }
     requires id { next.key ≡ id_of next.doc }
     ensures steps { (i : Insertions) → IsInsertions i → IsNextOf i next.doc rest → Steps by (K.failed store.old.keeper) (K.failed store.new.keeper) (State.Inserting i) store.old.journal store.new.journal result }
     ensures leads { (i : Insertions) → IsInsertions i → IsNextOf i next.doc rest → Promises store.old.start coll.now by store.old.journal store.new.journal (State.Inserting i) result }
