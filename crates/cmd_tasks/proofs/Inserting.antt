@@ -15,25 +15,29 @@ use Rattle.reply_env.specs.Reply.{IsRefusalOf, TellsInserted}
 use Rattle.reply_env.specs.declared.reply.ErrorItem.{ErrorItem}
 use Rattle.reply_env.specs.declared.reply.Reply.{Reply}
 use Rattle.reply_env.specs.declared.reply.Reply.TheVariants.{NoMemory}
-use Rattle.store_core.specs.State.{State as Base}
+use Rattle.store_core.specs.State.{State as Base, number_at}
+use Rattle.store_core.specs.Journal.{replay}
 use Rattle.store_core.specs.declared.entry.Entry.{Entry}
+use Rattle.store_core.specs.declared.entry.Entry.TheVariants.{Failed}
 use Rattle.cmd_grammar.specs.Commands.{IsStorable}
 use Rattle.cmd_tasks.specs.Trace.{Sight, sight}
 use Rattle.cmd_tasks.specs.Jobs.{Job, inserts}
 use Rattle.cmd_tasks.specs.Insertions.{IsInserted, IsTaken, IsInsertion, id_written, error_of_double, is_any, inserted, doubles, next_document, TellsInsertions}
 use Rattle.cmd_tasks.specs.Served.{IsPartOf, IsOpen, Serves, Stops, Marks, TellsStop, accepted, one_if_wrote}
-use Rattle.cmd_tasks.specs.Looking.{Made}
+use Rattle.cmd_tasks.specs.Looking.{Made, IsLooked}
 use Rattle.cmd_tasks.specs.Puts.{MarksPut}
-use Rattle.cmd_tasks.specs.Inserting.{IsNextOf, HasMore, is_over, InsertsOn, StopsAll}
+use Rattle.cmd_tasks.specs.Inserting.{IsNextOf, HasMore, is_over, InsertsOn, InsertsMore, StopsAll}
 use Rattle.cmd_tasks.specs.Moves.{IsInsertions, IsInserting, IsBegun, IsUnderWay, Leads, Steps, documents_of}
 use Rattle.cmd_tasks.specs.declared.trace.Item.{Item}
-use Rattle.cmd_tasks.specs.declared.trace.Item.TheVariants.{Wrote, Lost}
+use Rattle.cmd_tasks.specs.declared.trace.Item.TheVariants.{Lost, Faulted}
 use Rattle.cmd_tasks.specs.declared.work.Insertions.{Insertions}
 use Rattle.cmd_tasks.specs.declared.work.State.{State}
 use Rattle.cmd_tasks.specs.declared.work.State.TheVariants.{Inserting}
 use Rattle.cmd_tasks.specs.declared.work.Moved.{Moved}
 use Rattle.cmd_tasks.specs.declared.work.Moved.TheVariants as m
-use Rattle.cmd_tasks.proofs.Requests.{stops_for, stop_serves}
+use Rattle.cmd_tasks.proofs.Glances.{looked_here, failed_stops}
+use Rattle.cmd_tasks.proofs.Requests.{IsNoWrite, stops_for, stop_serves}
+use Rattle.cmd_tasks.proofs.Puts.{taken_here, mark_stops}
 
 -- ---- lists
 
@@ -148,6 +152,20 @@ module _ (i : Insertions) (d : Tree) (rest : Insertions) (ready : IsInsertions i
   stop_steps low high k H H' At error (m.Ends item reply) made is = made item is.0
   stop_steps low high k H H' At error m.NoMemory made is = absurd is
 
+  pub doubled_steps : (low high k : ℕ) (H H' : List Entry) (item : Item) (error : ErrorItem) (o : Moved) → H' ≡ H → Made k low high H H' item → (o ≡ m.NoMemory) ⊎ InsertsMore rest [] (error ∷ []) item o
+      → Steps k low high (Inserting i) H H' o
+  doubled_steps low high k H H' item error o same made more = ⊎_elim
+      (λ (e : o ≡ m.NoMemory). subst (λ (z : Moved). Steps k low high (Inserting i) H H' z) (sym e) same)
+      (λ (z : InsertsMore rest [] (error ∷ []) item o). on_steps [] (error ∷ []) z.0 z.1 low high k H H' item o (omega arith) made z.2)
+      more
+
+  pub mark_steps : (low high k : ℕ) (H H' : List Entry) (at : ℕ) (key : Tree) (error : ErrorItem) (o : Moved) → H' ≡ H → at ≡ length H → (o ≡ m.NoMemory) ⊎ StopsAll rest (λ item. IsLooked item at (Some key) (Some key) []) error o
+      → Steps k low high (Inserting i) H H' o
+  mark_steps low high k H H' at key error o same here stops = ⊎_elim
+      (λ (e : o ≡ m.NoMemory). subst (λ (z : Moved). Steps k low high (Inserting i) H H' z) (sym e) same)
+      (λ z. stop_steps low high k H H' (λ item. IsLooked item at (Some key) (Some key) []) error o (λ item is. looked_here k low high H H' item at (Some key) (Some key) [] same here is) z)
+      stops
+
   -- ---- where it is told
 
   module _ (base : Base) (coll : Name) (k : ℕ) (H' : List Entry) (earlier : List Sight) (way : IsUnderWay base coll k (Inserting i) earlier) where
@@ -221,3 +239,25 @@ module _ (i : Insertions) (d : Tree) (rest : Insertions) (ready : IsInsertions i
         told reply t = subst (λ (l : List Tree). IsRefusalOf (doubles ds earlier ++ error ∷ []) (TellsInserted l) reply) (next.ids ∙ way.1.ids_are)
             (subst (λ (l : List ErrorItem). IsRefusalOf (l ++ error ∷ []) (TellsInserted rest.ids.items) reply) (next.errors ∙ way.1.errors_are) t)
     stop_leads At error m.NoMemory stops is = absurd is
+
+    -- its id is there
+    pub doubled_leads : (H : List Entry) (at tx : ℕ) (key : Tree) (o : Moved) → key ≡ id_of d → H' ≡ H → at ≡ length H → number_at (replay base H) coll key ≡ Some tx
+        → (o ≡ m.NoMemory) ⊎ InsertsMore rest [] (errors.already_exists key tx ∷ []) (Lost at 0 (Some tx)) o → Leads base coll k H' (Inserting i) earlier o
+    doubled_leads H at tx key o key_is same here there more = ⊎_elim
+        (λ (e : o ≡ m.NoMemory). subst (λ (z : Moved). Leads base coll k H' (Inserting i) earlier z) (sym e) tt)
+        (λ (z : InsertsMore rest [] (errors.already_exists key tx ∷ []) (Lost at 0 (Some tx)) o).
+        on_leads [] (errors.already_exists key tx ∷ []) z.0 z.1 (Lost at 0 (Some tx)) (inr (tx, taken_here base coll k d H H' at tx same here (subst (λ (t : Tree). number_at (replay base H) coll t ≡ Some tx) key_is there)))
+        refl (ap (λ (t : Tree). errors.already_exists t tx ∷ []) (sym key_is)) o z.2)
+        more
+
+    pub mark_leads : (H : List Entry) (at : ℕ) (key : Tree) (error : ErrorItem) (o : Moved) → key ≡ id_of d → H' ≡ H → at ≡ length H → IsNoWrite coll (replay base H) error
+        → (o ≡ m.NoMemory) ⊎ StopsAll rest (λ item. IsLooked item at (Some key) (Some key) []) error o → Leads base coll k H' (Inserting i) earlier o
+    mark_leads H at key error o key_is same here cause stops = ⊎_elim
+        (λ (e : o ≡ m.NoMemory). subst (λ (z : Moved). Leads base coll k H' (Inserting i) earlier z) (sym e) tt)
+        (λ z. stop_leads (λ item. IsLooked item at (Some key) (Some key) []) error o (λ item is. mark_stops base coll k d H H' at item error same here (subst (λ (t : Tree). IsLooked item at (Some t) (Some t) []) key_is is) cause) z)
+        stops
+
+    pub fault_leads : (H : List Entry) (at before count : ℕ) (o : Moved) → H' ≡ H ++ Failed k before count ∷ [] → at ≡ length H
+        → StopsAll rest (λ item. item ≡ Faulted at before count) (errors.store_fault before count) o → Leads base coll k H' (Inserting i) earlier o
+    fault_leads H at before count o longer here stops = stop_leads (λ item. item ≡ Faulted at before count) (errors.store_fault before count) o
+        (λ item is. subst (λ (z : Item). Stops base coll k (MarksPut d) ⊤ z (sight H' z) (errors.store_fault before count)) (sym is) (failed_stops base coll k (MarksPut d) ⊤ H H' at before count longer here)) stops
