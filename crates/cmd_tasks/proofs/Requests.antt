@@ -1,6 +1,6 @@
 -- How each request goes on, or is answered.
 use Rattle.std.proofs.Common.{◌≡◌, ◌≢◌, ℕ, ◌+◌, ◌<◌, ◌≤◌, List, [], ◌∷◌, ◌++◌, take, length, true, false, ◌-◌, ◌^◌, Option, Some, None, refl, sym, ap, ◌∙◌, subst, arith, inl, inr, length-append, Vec, Global, leb, ◌⊎◌, ⊎_elim}
-use Rattle.std.specs.Prelude.{⊤, nat_le, if◌then◌else◌}
+use Rattle.std.specs.Prelude.{⊤, IfSome, nat_le, if◌then◌else◌}
 use Rattle.std.proofs.lemmas.List.{length-map}
 use Rattle.std.proofs.lemmas.Bool.{leb-true}
 use Rattle.std.proofs.lemmas.Bool.Decides.{leb_tells}
@@ -30,7 +30,7 @@ use Rattle.cmd_tasks.specs.Served.{IsPartOf, Answers, Serves, Stops, Marks, IsTo
 use Rattle.cmd_tasks.specs.Pages.{found_row}
 use Rattle.cmd_tasks.specs.Wanted.{IsWanted}
 use Rattle.cmd_tasks.specs.Looking.{Made, Glances, Sees, StopsSo, Refuses, IsLooked}
-use Rattle.cmd_tasks.specs.Moves.{Steps, Leads, IsBegun, IsUnderWay, EndsSo, EndsMarked, count_to}
+use Rattle.cmd_tasks.specs.Moves.{asked, Steps, Leads, IsBegun, IsUnderWay, EndsSo, EndsMarked, count_to}
 use Rattle.cmd_tasks.specs.declared.trace.Item.{Item}
 use Rattle.cmd_tasks.specs.declared.trace.Item.TheVariants.{Looked, Wrote, Lost, Faulted}
 use Rattle.cmd_tasks.specs.declared.work.Wanted.{Wanted}
@@ -173,6 +173,13 @@ module _ (base : Base) (coll : Name) (k : ℕ) where
   pub failed_serves : (job : Job) → IsSingle job → (earlier : List Sight) (H H' : List Entry) (at before count : ℕ) (reply : Reply) → IsBegun base coll k job earlier → H' ≡ H ++ Failed k before count ∷ [] → at ≡ length H
       → Refuses (errors.store_fault before count) reply → Serves base coll k job (sight H' (Faulted at before count) ∷ earlier) reply
   failed_serves job one earlier H H' at before count reply begun longer here refuses = stopped_serves job one earlier (sight H' (Faulted at before count)) (errors.store_fault before count) reply begun (saw_entry H H' (Failed k before count) at longer here, refl) refuses
+
+  pub failed_leads : (job : Job) → IsSingle job → (w : State) → asked w ≡ Some job → (earlier : List Sight) (H H' : List Entry) (at before count : ℕ) (o : Moved) → IsBegun base coll k job earlier
+      → H' ≡ H ++ Failed k before count ∷ [] → at ≡ length H → EndsSo (Faulted at before count) (Refuses (errors.store_fault before count)) o → Leads base coll k H' w earlier o
+  failed_leads job one w asks earlier H H' at before count (m.Goes i z) begun longer here is = absurd is
+  failed_leads job one w asks earlier H H' at before count (m.Ends i r) begun longer here is = subst (λ (a : Option Job). IfSome a (λ j. Serves base coll k j (sight H' i ∷ earlier) r)) (sym asks)
+      (subst (λ (z : Item). Serves base coll k job (sight H' z ∷ earlier) r) (sym is.0) (failed_serves job one earlier H H' at before count r begun longer here is.1))
+  failed_leads job one w asks earlier H H' at before count m.NoMemory begun longer here is = absurd is
 
   -- the reply is the request's answer, or memory was wanting
   pub answered : (job : Job) (sights : List Sight) (reply : Reply) (P : Type 0) → IsPartOf base coll k job sights → accepted sights ≡ 0 → (P → Answers base coll k job sights reply)

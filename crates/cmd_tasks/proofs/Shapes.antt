@@ -7,18 +7,16 @@ use Rattle.reply_env.specs.declared.reply.Reply.TheVariants.{Done, NoMemory}
 use Rattle.store_core.specs.State.{State as Base, Lives, IsGone}
 use Rattle.store_core.specs.Journal.{replay}
 use Rattle.store_core.specs.declared.entry.Entry.{Entry}
-use Rattle.store_core.specs.declared.entry.Entry.TheVariants.{Created, Dropped, Failed}
+use Rattle.store_core.specs.declared.entry.Entry.TheVariants.{Created, Dropped}
 use Rattle.cmd_tasks.specs.Trace.{Sight, sight}
-use Rattle.cmd_tasks.specs.Jobs.{Job, creates, drops, names}
+use Rattle.cmd_tasks.specs.Jobs.{creates, drops, names}
 use Rattle.cmd_tasks.specs.Served.{IsPartOf, Serves, IsMark, IsMade, IsDropped, TellsNames, accepted, one_if_wrote}
 use Rattle.cmd_tasks.specs.Looking.{IsLooked, Refuses}
-use Rattle.cmd_tasks.specs.Moves.{IsBegun, EndsSo}
+use Rattle.cmd_tasks.specs.Moves.{IsBegun}
 use Rattle.cmd_tasks.specs.declared.trace.Item.{Item}
 use Rattle.cmd_tasks.specs.declared.trace.Item.TheVariants.{Looked, Wrote, Lost, Faulted}
-use Rattle.cmd_tasks.specs.declared.work.Moved.{Moved}
-use Rattle.cmd_tasks.specs.declared.work.Moved.TheVariants as m
 use Rattle.cmd_tasks.proofs.Glances.{saw, saw_before, saw_entry}
-use Rattle.cmd_tasks.proofs.Requests.{IsSingle, answered, failed_serves}
+use Rattle.cmd_tasks.proofs.Requests.{answered}
 
 -- a look at nothing saw the whole history, and wrote nothing
 is_mark : (at : ℕ) (item : Item) → IsLooked item at None None [] → IsMark item
@@ -46,10 +44,6 @@ module _ (base : Base) (coll : Name) (k : ℕ) (earlier : List Sight) (H H' : Li
 
   none_accepted : (item : Item) → IsLooked item at None None [] → earlier ≡ [] → accepted (sight H' item ∷ earlier) ≡ 0
   none_accepted item is first = let a = mark_wrote at item is in let b = ap accepted first in omega arith
-
-  pub fails : (job : Job) → IsSingle job → (before count : ℕ) (item : Item) (reply : Reply) → IsBegun base coll k job earlier → H' ≡ H ++ Failed k before count ∷ [] → at ≡ length H
-      → item ≡ Faulted at before count → Refuses (errors.store_fault before count) reply → Serves base coll k job (sight H' item ∷ earlier) reply
-  fails job one before count item reply begun longer here is refuses = subst (λ (z : Item). Serves base coll k job (sight H' z ∷ earlier) reply) (sym is) (failed_serves base coll k job one earlier H H' at before count reply begun longer here refuses)
 
   -- ---- creations
 
