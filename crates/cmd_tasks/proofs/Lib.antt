@@ -11,6 +11,9 @@ mod Shorts
 mod Keeping
 mod Searching
 mod Requests
+mod Puts
+mod Inserting
+mod Shapes
 mod Selecting
 mod Beginnings
 mod Accepted

@@ -22,6 +22,7 @@ pub mod Puts
 pub mod Ones
 pub mod Many
 pub mod Moves
+pub mod Inserting
 pub mod Going
 pub mod ManySteps
 pub mod Stands
