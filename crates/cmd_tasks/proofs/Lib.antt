@@ -5,6 +5,7 @@ mod Listing
 mod Ranks
 mod Lasts
 mod Fresh
+mod Misses
 mod PageStates
 mod Glances
 mod Shorts
@@ -23,8 +24,10 @@ mod Opening
 pub mod Attempts
 pub mod Lookback
 mod Fitting
+mod Replies
 pub mod Rounds
 pub mod Tries
+mod Placings
 pub mod Contests
 mod Ascent
 mod Covering
@@ -33,7 +36,6 @@ mod Stepping
 mod Tallying
 mod Reaching
 mod Telling
-mod Deletions
 mod Settling
 mod Goings
 mod Kept

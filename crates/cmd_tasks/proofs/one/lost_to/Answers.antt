@@ -1,5 +1,5 @@
 use Rattle.std.proofs.Common.{rules, ◌<◌, length, refl}
-use Rattle.cmd_tasks.proofs.deletes.deletion_lost.Goals as goal
+use Rattle.cmd_tasks.proofs.one.lost_to.Goals as goal
 
 pub returns : goal.returns
 returns c =
