@@ -1,5 +1,5 @@
 -- How a command that takes many documents goes on behind an item, or stops there.
-use Rattle.std.proofs.Common.{◌≡◌, ◌⊎◌, ℕ, ◌+◌, List, [], ◌∷◌, false, Option, Some, refl, sym, ap, ◌∙◌, subst, arith, inl, inr, ⊎_elim}
+use Rattle.std.proofs.Common.{◌≡◌, ◌⊎◌, ℕ, List, ◌∷◌, false, Option, sym, ap, ◌∙◌, subst, inl, inr, ⊎_elim}
 use Rattle.std.specs.Prelude.{IfSome}
 use Rattle.json_tree.specs.Tree.{Tree}
 use Rattle.col_keeper.specs.Tables.{Name}
@@ -14,7 +14,7 @@ use Rattle.store_core.specs.State.{State as Base}
 use Rattle.store_core.specs.declared.entry.Entry.{Entry}
 use Rattle.cmd_tasks.specs.Trace.{Sight, sight}
 use Rattle.cmd_tasks.specs.Jobs.{Job, changes_many}
-use Rattle.cmd_tasks.specs.Served.{IsPartOf, Marks, IsToWrite, Stops, Serves, accepted, one_if_wrote, many_standing}
+use Rattle.cmd_tasks.specs.Served.{IsPartOf, Marks, IsToWrite, Stops, Serves, many_standing}
 use Rattle.cmd_tasks.specs.Doing.{Doing}
 use Rattle.cmd_tasks.specs.Taking.{Standing, not_put, turn}
 use Rattle.cmd_tasks.specs.Turns.{IsOn, so_far_of, Ends}
@@ -27,7 +27,7 @@ use Rattle.cmd_tasks.specs.declared.work.State.TheVariants.{Inserting, Selecting
 use Rattle.cmd_tasks.specs.declared.work.Moved.{Moved}
 use Rattle.cmd_tasks.specs.declared.work.Moved.TheVariants as m
 use Rattle.cmd_tasks.specs.declared.trace.Item.{Item}
-use Rattle.cmd_tasks.proofs.Requests.{stops_wrote}
+use Rattle.cmd_tasks.proofs.Requests.{stop_serves}
 use Rattle.cmd_tasks.proofs.Accepted.{unput_accepts}
 use Rattle.cmd_tasks.proofs.Turnings.{paging_turn, trying_turn}
 
@@ -39,14 +39,10 @@ module _ (base : Base) (coll : Name) (k : ℕ) (f : FilterTree) (doing : Doing) 
   pub many_stopped : (earlier : List Sight) (s : Sight) (error : ErrorItem) (reply : Reply) → IsBegun base coll k (changes_many f doing page) earlier
       → Stops base coll k (Marks base coll k (changes_many f doing page) earlier) (IsToWrite base coll k (changes_many f doing page) earlier) s.item s error → (now_at earlier).put ≡ not_put → RefusesAfter doing (now_at earlier) error reply
       → Serves base coll k (changes_many f doing page) (s ∷ earlier) reply
-  many_stopped earlier s error reply begun stops unput refuses = ⊎_elim
-      (λ (r : IsRefusalAfter (so_far_of doing (now_at earlier)) error reply). inr (inl (error, (begun.0, begun.1, stops), r)))
-      (λ (e : reply ≡ NoMemory (now_at earlier).modified).
-      let a = unput_accepts base coll k f doing page earlier begun.0 unput in
-      let b = stops_wrote base coll k _ _ s.item s error stops in
-      let z : (now_at earlier).modified ≡ one_if_wrote s.item + accepted earlier = omega (arith, a, b) in
-      inr (inr (inr (error, (begun.0, begun.1, stops)), e ∙ ap NoMemory z)))
-      refuses
+  many_stopped earlier s error reply begun stops unput refuses = stop_serves base coll k (changes_many f doing page) earlier s error reply begun stops (⊎_elim
+      (λ (r : IsRefusalAfter (so_far_of doing (now_at earlier)) error reply). inl r)
+      (λ (e : reply ≡ NoMemory (now_at earlier).modified). inr (e ∙ ap NoMemory (sym (unput_accepts base coll k f doing page earlier begun.0 unput))))
+      refuses)
 
 -- ---- it goes on behind an item
 

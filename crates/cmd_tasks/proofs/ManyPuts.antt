@@ -105,7 +105,7 @@ module _ (base : Base) (coll : Name) (k : ℕ) (many : Many) (stand : Stand) (do
 
   stopped : (s : Sight) (error : ErrorItem) (reply : Reply) → Stops base coll k (MarksPut doc) ⊤ s.item s error → Refuses error reply → Serves base coll k job (s ∷ earlier) reply
   stopped s error reply stops refuses = many_stopped base coll k f doing many.page.value earlier s error reply way.0
-      (stops_for base coll k (MarksPut doc) _ _ s.item s error stops (subst IsWrite (sym way.1.is) tt) (λ after to h. subst (λ (x : Turn). MarksTurn x after to) (sym way.1.is) h))
+      (stops_for base coll k (MarksPut doc) (MarksTurn (turn up doing st)) (IsWrite (turn up doing st)) s.item s error (subst IsWrite (sym way.1.is) tt) (λ after to h. subst (λ (x : Turn). MarksTurn x after to) (sym way.1.is) h) stops)
       is.unput
       (⊎_elim
       (λ (r : IsRefusal error reply). inl (subst (λ (o : Option SoFar). IsRefusalAfter o error reply) (sym (ap (λ n. if nat_lt 0 n then Some (counts_of doing st) else None) way.1.none_written)) r))
