@@ -25,6 +25,7 @@ pub mod Moves
 pub mod Inserting
 pub mod Going
 pub mod ManySteps
+pub mod First
 pub mod Stands
 pub mod Joined
 pub mod Tally
