@@ -12,6 +12,9 @@ mod Shorts
 mod Keeping
 mod Searching
 mod Requests
+mod Puts
+mod Inserting
+mod Shapes
 mod Selecting
 mod Beginnings
 mod Accepted
@@ -35,6 +38,10 @@ mod Reaching
 mod Telling
 mod Settling
 mod Goings
+mod Kept
+mod Turnings
+mod Upserted
+mod ManyPuts
 mod Waiting
 mod Apart
 mod Following

@@ -19,8 +19,8 @@ use Rattle.cmd_tasks.specs.declared.work.State.{State}
 use Rattle.cmd_tasks.specs.declared.work.State.TheVariants.{Paging, Trying, PuttingMany}
 use Rattle.cmd_tasks.specs.declared.work.Moved.{Moved}
 use Rattle.cmd_tasks.specs.declared.work.Moved.TheVariants as m
-use Rattle.cmd_tasks.specs.declared.taking.Met.{Met}
-use Rattle.cmd_tasks.specs.declared.taking.Met.TheVariants as met
+use Rattle.cmd_tasks.specs.declared.meeting.Met.{Met}
+use Rattle.cmd_tasks.specs.declared.meeting.Met.TheVariants as met
 use Rattle.cmd_tasks.specs.declared.taking.Settled.{Settled}
 use Rattle.cmd_tasks.specs.declared.taking.Settled.TheVariants as settled
 use Rattle.cmd_tasks.specs.declared.trace.Item.{Item}

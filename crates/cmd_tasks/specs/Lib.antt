@@ -22,8 +22,10 @@ pub mod Puts
 pub mod Ones
 pub mod Many
 pub mod Moves
+pub mod Inserting
 pub mod Going
 pub mod ManySteps
+pub mod First
 pub mod Stands
 pub mod Joined
 pub mod Tally

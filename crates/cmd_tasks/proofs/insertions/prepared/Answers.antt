@@ -3,7 +3,7 @@ use Rattle.json_tree.specs.Tree.{Tree}
 use Rattle.json_tree.specs.Id.{IsId}
 use Rattle.json_tree.specs.Doc.{id_in}
 use Rattle.json_tree.specs.View.{tree}
-use Rattle.cmd_tasks.proofs.steps.prepared.Goals as goal
+use Rattle.cmd_tasks.proofs.insertions.prepared.Goals as goal
 
 some_id : (o : Option Tree) → MatchOption o ⊥ IsId → IsSome o
 some_id None h = absurd h

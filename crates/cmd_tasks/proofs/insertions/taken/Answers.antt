@@ -2,7 +2,7 @@ use Rattle.std.proofs.Common.{rules, ◌≡◌, ℕ, Some, sym, ap, ◌∙◌, s
 use Rattle.reply_env.specs.Messages as errors
 use Rattle.cmd_tasks.specs.Looking.{Refuses}
 use Rattle.cmd_tasks.specs.declared.trace.Item.TheVariants.{Lost}
-use Rattle.cmd_tasks.proofs.steps.taken.Goals as goal
+use Rattle.cmd_tasks.proofs.insertions.taken.Goals as goal
 
 same_some : (a b : ℕ) → Some a ≡ Some b → a ≡ b
 same_some a b e = cc
