@@ -5,12 +5,16 @@ mod Listing
 mod Ranks
 mod Lasts
 mod Fresh
+mod Misses
 mod PageStates
 mod Glances
 mod Shorts
 mod Keeping
 mod Searching
 mod Requests
+mod Puts
+mod Inserting
+mod Shapes
 mod Selecting
 mod Beginnings
 mod Drawing
@@ -21,8 +25,10 @@ mod Opening
 pub mod Attempts
 pub mod Lookback
 mod Fitting
+mod Replies
 pub mod Rounds
 pub mod Tries
+mod Placings
 pub mod Contests
 mod Ascent
 mod Covering
@@ -31,9 +37,12 @@ mod Stepping
 mod Tallying
 mod Reaching
 mod Telling
-mod Deletions
 mod Settling
 mod Goings
+mod Kept
+mod Turnings
+mod Upserted
+mod ManyPuts
 mod Waiting
 mod Apart
 mod Following

@@ -12,12 +12,12 @@ mod laws;
 mod many;
 mod meeting;
 mod one;
+mod outcomes;
 mod run;
 mod search;
 mod steps;
 mod taking;
 mod task;
-mod telling;
 #[cfg(test)]
 mod tests;
 mod trace;

@@ -145,7 +145,7 @@ pub(crate) struct Insertions {
 }
 
 /// Many documents that are to be updated or deleted. `given` is how many were counted before the page that `page`
-/// tells, which takes no memory.
+/// tells, which takes no memory; where it tells none, this is the first page.
 #[derive(Drop)]
 pub(crate) struct Many {
     pub(crate) wanted: Wanted,
