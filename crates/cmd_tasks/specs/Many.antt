@@ -1,9 +1,5 @@
 -- Commands that take many documents: what their states keep by themselves, and what they keep of the sights.
-<<<<<<< HEAD
-use Rattle.std.specs.Prelude.{◌≡◌, ℕ, ◌+◌, ◌-◌, ◌*◌, ◌<◌, ◌≤◌, List, [], ◌∷◌, length, map, reverse, Bool, true, false, Option, Some, None, is_none, ⊤, Result, Ok}
-=======
 use Rattle.std.specs.Prelude.{◌≡◌, ℕ, ◌+◌, ◌-◌, ◌*◌, ◌<◌, ◌≤◌, List, [], ◌∷◌, length, map, reverse, Bool, true, false, is_none, Option, Some, None, ⊤, Result, Ok}
->>>>>>> d7e67e772260c5009d782a1f2ad83299f1430a3d
 use Rattle.std.specs.List.{AllByRecursion, list_any}
 use Rattle.std.specs.Ordering.{is_lt}
 use Rattle.json_tree.specs.Tree.{Tree}
