@@ -17,6 +17,8 @@ mod Inserting
 mod Shapes
 mod Selecting
 mod Beginnings
+mod Keys
+mod Texts
 mod Drawing
 mod Accepted
 mod Standing

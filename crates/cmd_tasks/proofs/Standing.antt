@@ -39,7 +39,8 @@ use Rattle.cmd_tasks.specs.declared.work.Moved.TheVariants as m
 use Rattle.cmd_tasks.specs.declared.trace.Item.{Item}
 use Rattle.cmd_tasks.specs.declared.trace.Item.TheVariants.{Looked, Wrote, Lost, Faulted}
 use Rattle.cmd_tasks.proofs.Extension.{sights_more, within_longer, places_more}
-use Rattle.cmd_tasks.proofs.Requests.{accepts, inserts_accepts, cut_off}
+use Rattle.cmd_tasks.proofs.Requests.{accepts, cut_off}
+use Rattle.cmd_tasks.proofs.Inserting.{inserts_accepts}
 use Rattle.cmd_tasks.proofs.Accepted.{unput_accepts}
 use Rattle.cmd_tasks.proofs.Turnings.{to_put}
 use Rattle.cmd_tasks.proofs.Fresh.{fresh_searching, none_first, match_none}

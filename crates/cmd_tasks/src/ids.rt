@@ -1,12 +1,12 @@
 // The generator of a session's ids: UUIDs of version 4 out of ChaCha20, as texts.
-ghost use Rattle.std.specs.Prelude.{◌≡◌, ◌+◌, ◌++◌, ℕ, length, IfOk, IfErr};
+ghost use Rattle.std.specs.Prelude.{◌≡◌, ◌+◌, ◌∷◌, ◌++◌, [], ℕ, IfOk, IfErr, length};
 ghost use Rattle.std.specs.List.{AllByRecursion as Each};
 ghost use Rattle.rand_core.specs.Stream.{Stream};
 ghost use Rattle.json_tree.specs.Tree as trees;
 ghost use Rattle.json_tree.specs.Tree.{Tree};
 ghost use Rattle.json_tree.specs.Id.{IsId, IsInRange};
 ghost use Rattle.json_tree.specs.declared.fault.TreeFault.TheVariants.{NoMemory};
-ghost use Rattle.cmd_tasks.specs.Ids.{begins, stream_of_ids, next_id, after_id, drawn, after_drawing, IsGenerated};
+ghost use Rattle.cmd_tasks.specs.Ids.{begins, stream_of_ids, drawn, after_drawing, IsGenerated};
 
 use json_tree::{DocId, Text, TreeFault, Value};
 use rand_chacha::ChaCha20Rng;
@@ -24,8 +24,8 @@ pub struct Ids {
 }
 
 impl Ids {
-    /// The generator of a session, over a base behind which the first write has this number. The key is the seed and the
-    /// low 32 bits of the session's number, the highest byte first, and the stream is the base's number.
+    /// The generator of a session. The key is the seed and the low 32 bits of the session's number, the highest
+    /// byte first, and the stream is the number of the first write after the base.
     pub fn new(seed: &[u8; 28], base_tx: u64, session: u64) -> Ids
         ensures { stream_of_ids result ≡ begins seed.now base_tx session }
     {
@@ -41,9 +41,9 @@ impl Ids {
     /// The next id: the hyphenated text of a UUID in lower case. It counts as drawn also where memory is
     /// wanting for it.
     pub fn draw(&mut self, alloc: Global) -> Result<DocId, TreeFault>
-        ensures ok { IfOk result (λ id. id ≡ next_id (stream_of_ids self.old)) }
+        ensures id { IfOk result (λ id. id ∷ [] ≡ drawn 1 (stream_of_ids self.old)) }
         ensures err { IfErr result (λ e. e ≡ NoMemory) }
-        ensures after { stream_of_ids self.new ≡ after_id (stream_of_ids self.old) }
+        ensures after { stream_of_ids self.new ≡ after_drawing 1 (stream_of_ids self.old) }
     {
         let uuid = Uuid::new_v4(&mut self.rng);
         let mut buffer = [0u8; 36];
