@@ -1,5 +1,5 @@
 -- The text of a reply.
-use Rattle.std.specs.Prelude.{◌≡◌, ℕ, Bool, true, false, List, [], ◌∷◌, ◌++◌, Option, Some, None, codes, decimal}
+use Rattle.std.specs.Prelude.{◌≡◌, ◌≢◌, ℕ, Bool, true, false, List, [], ◌∷◌, ◌++◌, Option, Some, None, codes, decimal}
 use Rattle.std.specs.List.{flat_map}
 use Rattle.json_tree.specs.Tree.{Tree}
 use Rattle.json_tree.specs.View.{tree}
@@ -97,10 +97,20 @@ reply_text (Names names) = codes "{\"status\":{\"collections\":[" ++ with_commas
 reply_text (Refused errors done) = status_text done ++ errors_text errors.items
 reply_text (NoMemory accepted) = codes "{" ++ errors_text (out_of_memory accepted ∷ [])
 
+-- tells that these documents were inserted, in this order: nothing where there are none, else their ids
+abbrev pub TellsInserted : List Tree → Option SoFar → Type 0
+TellsInserted ids None = ids ≡ []
+TellsInserted ids (Some (so_far.Inserted told)) = (told.items ≡ ids) × (ids ≢ [])
+TellsInserted ids (Some done) = ⊥
+
+-- the reply refuses by exactly these errors, in this order, and what it tells of what was written before is so
+abbrev pub IsRefusalOf : List ErrorItem → (Option SoFar → Type 0) → Reply → Type 0
+IsRefusalOf errors Tells (Refused listed done) = (listed.items ≡ errors) × Tells done
+IsRefusalOf errors Tells reply = ⊥
+
 -- the reply refuses by this error alone, and tells this of what was written before
 abbrev pub IsRefusalAfter : Option SoFar → ErrorItem → Reply → Type 0
-IsRefusalAfter so_far error (Refused errors done) = (errors.items ≡ error ∷ []) × (done ≡ so_far)
-IsRefusalAfter so_far error reply = ⊥
+IsRefusalAfter so_far error reply = IsRefusalOf (error ∷ []) (λ done. done ≡ so_far) reply
 
 -- the reply refuses by this error alone, and nothing was written before
 abbrev pub IsRefusal : ErrorItem → Reply → Type 0
