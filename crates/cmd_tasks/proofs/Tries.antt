@@ -18,12 +18,13 @@ use Rattle.reply_env.specs.declared.update_errors.Loss.{Loss}
 use Rattle.store_core.specs.State.{State as Base, IsOld, version, number_at}
 use Rattle.store_core.specs.Journal.{IsJournal, IsMadeOfRead, replay}
 use Rattle.store_core.specs.declared.entry.Change.{Change}
-use Rattle.store_core.specs.declared.entry.Change.TheVariants as change
+use Rattle.store_core.specs.declared.entry.Change.TheVariants.{Insert, Replace, Update, Delete}
 use Rattle.store_core.specs.declared.entry.Entry.{Entry}
 use Rattle.store_core.specs.declared.entry.Entry.TheVariants.{Changed, Failed}
 use Rattle.view_sort.specs.Sort.{SortKeys}
 use Rattle.cmd_tasks.specs.Trace.{Sight, sight}
 use Rattle.cmd_tasks.specs.Attempts.{IsWon, IsLost, comes_between}
+use Rattle.cmd_tasks.specs.Searches.{stored}
 use Rattle.cmd_tasks.specs.Doing.{Doing}
 use Rattle.cmd_tasks.specs.Jobs.{Form}
 use Rattle.cmd_tasks.specs.Served.{IsPartOf, AnswersRounds, AnswersOne, Serves, Stops, Marks, IsToWrite, chosen, insertion, put_last, losses, accepted, sights}
@@ -104,16 +105,16 @@ module _ (base : Base) (coll : Name) (k : ℕ) (one : One) where
     earlier = sights H trace
 
     -- what the keeper holds under the number that was read is the document of the look
-    same_document : GivenOnce → IsOld base → (v : Version) → version (replay base H) coll attempt.id ≡ Some v → v.tx ≡ attempt.read → v ≡ record { tx = kept.x.tx; doc = kept.x.doc }
+    same_document : GivenOnce → IsOld base → (v : Version) → version (replay base H) coll attempt.id ≡ Some v → v.tx ≡ attempt.read → v ≡ stored kept.x
     same_document once old v there number = still_same base coll k f H trace placed kept.x kept.seen once lawful apart old v (ap (λ (i : Tree). version (replay base H) coll i) kept.same_id ∙ there) (number ∙ sym kept.number)
 
     -- so the attempt may be made
     fits_when : GivenOnce → IsOld base → (o : Option Version) → version (replay base H) coll attempt.id ≡ o → (c : Change) → Makes c kept.x.doc → IsMadeOfRead c (Some attempt.read) o
-    fits_when once old o there (change.Insert new) makes = tt
-    fits_when once old o there (change.Replace new) makes = tt
-    fits_when once old None there (change.Update u moment new) makes = tt
-    fits_when once old (Some v) there (change.Update u moment new) makes = λ is. ap (λ (z : Version). apply u z.doc moment false) (same_document once old v there (sym (same_some attempt.read v.tx is))) ∙ makes
-    fits_when once old o there change.Delete makes = tt
+    fits_when once old o there (Insert new) makes = tt
+    fits_when once old o there (Replace new) makes = tt
+    fits_when once old None there (Update u moment new) makes = tt
+    fits_when once old (Some v) there (Update u moment new) makes = λ is. ap (λ (z : Version). apply u z.doc moment false) (same_document once old v there (sym (same_some attempt.read v.tx is))) ∙ makes
+    fits_when once old o there Delete makes = tt
 
     pub fits_now : GivenOnce → IsOld base → IsMadeOfRead attempt.change (Some attempt.read) (version (replay base H) coll attempt.id)
     fits_now once old = fits_when once old (version (replay base H) coll attempt.id) refl attempt.change (makes_so doing kept.x.doc attempt.change kept.change)
