@@ -1,6 +1,7 @@
 -- What a session makes of a store, one exchange behind another.
 use Rattle.std.proofs.Common.{◌≡◌, ◌≤◌, ◌<◌, ◌++◌, ◌∷◌, [], ℕ, ℤ, List, Option, Some, None, refl, sym, ◌∙◌, ap, subst, append_assoc, arith}
 use Rattle.std.proofs.lemmas.List.{append-nil}
+use Rattle.std.specs.Prelude.{is_some}
 use Rattle.std.specs.Option.{option_map, ForSome}
 use Rattle.rand_core.specs.Stream.{Stream}
 use Rattle.json_tree.specs.Tree.{Tree}
@@ -9,6 +10,10 @@ use Rattle.reply_env.specs.declared.request.Request.{Request}
 use Rattle.cmd_tasks.specs.Ids.{drawn}
 use Rattle.cmd_tasks.specs.Session.{Exchange, IsSession, AreCounted, Asking, draws_of}
 use Rattle.store_core.specs.Counts.{AllBy, opened_in}
+use Rattle.reply_env.specs.declared.request.Place.{Place}
+use Rattle.cmd_grammar.specs.Asked.{is_of_documents, target, IsPlaced}
+use Rattle.cmd_grammar.specs.Commands.{CommandTree, insert_one, insert_many, find_one, find, count_documents, update_one, update_many, delete_one, delete_many, find_one_and_update, find_one_and_replace, find_one_and_delete, create_collection, find_collections, delete_collection}
+use Rattle.cmd_tasks.specs.Stands.{IsTargeted}
 use Rattle.api_serve.specs.Grown.{Grown}
 use Rattle.api_serve.specs.Answered.{IsAskedBy}
 use Rattle.api_serve.specs.One.{Answers, Extends, exchange_of}
@@ -165,3 +170,26 @@ pub performed : (start : Option State) (session number : ℕ) (before after : Li
 performed start session number before after asking ids x answered same is h = λ base told earlier was.
     subst (λ (y : Exchange). IsSession base after number (earlier ++ y ∷ [])) is
     (subst (λ (k : ℕ). (xs : List Exchange) → IsSession base before k xs → IsSession base after k (xs ++ x ∷ [])) same (h base told) earlier was)
+
+-- ---- collections
+
+-- a command on documents that stands where it may has a collection
+pub targeted : (own : List ℕ) (place : Place) (c : CommandTree) (coll : Option (List ℕ)) → IsPlaced own place c → coll ≡ target place c → IsTargeted coll c
+targeted own place c coll placed is = subst (λ (o : Option (List ℕ)). IsTargeted o c) (sym is) (so c placed.level)
+  where
+    so : (c : CommandTree) → is_some place.collection ≡ is_of_documents c → IsTargeted (target place c) c
+    so (insert_one d) e = e
+    so (insert_many ds ordered) e = e
+    so (find_one f sort p) e = e
+    so (find f sort p paging) e = e
+    so (count_documents f) e = e
+    so (update_one f u sort upsert) e = e
+    so (update_many f u upsert page) e = e
+    so (delete_one f sort) e = e
+    so (delete_many f) e = e
+    so (find_one_and_update f u sort p upsert after) e = e
+    so (find_one_and_replace f r sort p upsert after) e = e
+    so (find_one_and_delete f sort p) e = e
+    so (create_collection name) e = refl
+    so find_collections e = tt
+    so (delete_collection name) e = refl

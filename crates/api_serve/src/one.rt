@@ -1,6 +1,7 @@
 //! One request of a session.
-ghost use Rattle.std.specs.Prelude.{◌≡◌, ◌++◌, ◌∷◌, ◌<◌, ◌⊎◌, ℕ, ℤ, List, [], IfOk, OnOk, OnErr, Err, IfSome, Some};
+ghost use Rattle.std.specs.Prelude.{◌≡◌, ◌++◌, ◌∷◌, ◌<◌, ◌⊎◌, ℕ, ℤ, List, [], IfOk, OnOk, OnErr, Err, IfSome, IsTrue, option_map};
 ghost use Rattle.std.specs.Option.{ForSome};
+ghost use Rattle.doc_paths.specs.Name.{is_collection_name};
 ghost use Rattle.reply_env.specs.Reply.{reply_text};
 ghost use Rattle.cmd_tasks.specs.Ids.{after_drawing, stream_of_ids};
 ghost use Rattle.cmd_tasks.specs.Jobs.{draws};
@@ -69,13 +70,29 @@ fn refused(moment: i64, alloc: Global, code: Code, message: Text) -> Answered
     }
 }
 
-// The collection of a name.
+// The collection of a name that collections may have.
 fn collection_of(alloc: Global, name: &str) -> Result<CollName, NoMemory>
+    requires { IsTrue (is_collection_name name.now) }
     ensures { IfOk result (λ coll. coll ≡ name.now) }
 {
     match CollName::read(alloc, name) {
         Ok(coll) => Ok(coll),
         Err(_) => Err(NoMemory),
+    }
+}
+
+// The name of the collection that a command is about, if it is about one.
+fn target_name<'a>(place: &'a Place, command: &'a Command) -> Option<&'a str>
+    ensures { option_map (λ name. name.now) result ≡ target place.now (command_tree command.now) }
+{
+    match command {
+        Command::FindCollections => None,
+        Command::CreateCollection { name } => Some(name.text()),
+        Command::DeleteCollection { name } => Some(name.text()),
+        _ => match &place.collection {
+            Some(name) => Some(name.as_str()),
+            None => None,
+        },
     }
 }
 
@@ -85,17 +102,11 @@ fn target_of(
     place: &Place,
     command: &Command,
 ) -> Result<Option<CollName>, NoMemory>
-    ensures target { IfOk result (λ coll. coll ≡ target place.now (command_tree command.now)) }
-    ensures targeted { IfOk result (λ coll. IsTargeted coll (command_tree command.now)) }
+    requires { IfSome (target place.now (command_tree command.now)) (λ name. IsTrue (is_collection_name name)) }
+    ensures { IfOk result (λ coll. coll ≡ target place.now (command_tree command.now)) }
 {
-    let name = match command {
-        Command::FindCollections => return Ok(None),
-        Command::CreateCollection { name } => name.text(),
-        Command::DeleteCollection { name } => name.text(),
-        _ => match &place.collection {
-            Some(name) => name.as_str(),
-            None => return Err(NoMemory),
-        },
+    let Some(name) = target_name(place, command) else {
+        return Ok(None);
     };
     match collection_of(alloc, name) {
         Ok(coll) => Ok(Some(coll)),

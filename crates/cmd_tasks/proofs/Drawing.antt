@@ -10,9 +10,10 @@ use Rattle.json_tree.specs.View.{tree}
 use Rattle.json_tree.specs.declared.value.Value.{Value}
 use Rattle.json_tree.specs.declared.fault.TreeFault.{TreeFault}
 use Rattle.update_ops.specs.Upsert.{with_id}
+use Rattle.cmd_grammar.specs.Ids.{IsIdText}
 use Rattle.cmd_grammar.specs.Commands.{stand_in, under_own, IsInsertable, IsStorable}
 use Rattle.cmd_tasks.specs.Jobs.{under_next, under_ids, one_if_none, without_id}
-use Rattle.cmd_tasks.specs.Ids.{drawn, after_drawing, next_id, after_id, IsIdText, IsGenerated}
+use Rattle.cmd_tasks.specs.Ids.{drawn, after_drawing, IsGenerated}
 use Rattle.cmd_tasks.specs.First.{IsAdded}
 
 -- ---- the ids of the first document, and those of the others
@@ -56,7 +57,7 @@ after_step d ds s = after_first (id_in d) ds s
 
 -- a document that may be inserted and has no id may be stored under any text of such letters
 abbrev pub TakesIds : Type 0
-TakesIds = (t : Tree) → IsInsertable t → id_in t ≡ None → (u : List ℕ) → IsIdText u → IsStorable (with_id (text u) t)
+TakesIds = (t : Tree) (u : List ℕ) → IsInsertable t → id_in t ≡ None → IsIdText u → IsStorable (with_id (text u) t)
 
 -- ids that are drawn are such texts
 abbrev pub AreTexts : Type 0
@@ -64,7 +65,7 @@ AreTexts = (n : ℕ) (s : Stream) → Each IsGenerated (drawn n s)
 
 first_stored : TakesIds → AreTexts → (o : Option Tree) (d : Tree) (s : Stream) → id_in d ≡ o → IsInsertable d → IsStorable (under_next o (drawn (one_if_none o) s) d).0
 first_stored takes texts None d s is h =
-    let g = (texts 1 s).0 in subst (λ (id : Tree). IsStorable (with_id id d)) (sym g.1) (takes d h is g.0 g.2)
+    let g = (texts 1 s).0 in subst (λ (id : Tree). IsStorable (with_id id d)) (sym g.1) (takes d g.0 h is g.2)
 first_stored takes texts (Some own) d s is h = subst (λ (o : Option Tree). IsStorable (under_own stand_in d o)) is h
 
 pub each_stored : TakesIds → AreTexts → (ds : List Tree) (s : Stream) → Each IsInsertable ds → Each IsStorable (under_ids (drawn (without_id ds) s) ds)

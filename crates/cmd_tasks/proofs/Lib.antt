@@ -17,6 +17,7 @@ mod Inserting
 mod Shapes
 mod Selecting
 mod Beginnings
+mod Drawing
 mod Accepted
 mod Standing
 mod Running

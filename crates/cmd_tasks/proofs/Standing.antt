@@ -1,6 +1,6 @@
 -- A step of a task, and the entries of others between two steps, keep where it stands.
-use Rattle.std.proofs.Common.{◌≡◌, ℕ, ℤ, zero, suc, ◌+◌, ◌<◌, ◌≤◌, List, [], ◌∷◌, ◌++◌, map, drop, reverse, length, Bool, true, false, Option, Some, None, Result, Ok, Err, refl, sym, ap, ◌∙◌, subst, arith, inl, length-append, Vec, Global}
-use Rattle.std.specs.Prelude.{IfSome, IsSome, slice_get, nat_lt, if◌then◌else◌}
+use Rattle.std.proofs.Common.{◌≡◌, ℕ, ℤ, zero, suc, ◌+◌, ◌<◌, ◌≤◌, List, [], ◌∷◌, ◌++◌, map, drop, reverse, length, Bool, true, false, Option, Some, None, refl, sym, ap, ◌∙◌, subst, arith, inl, length-append, Vec, Global}
+use Rattle.std.specs.Prelude.{IfSome, IsSome, slice_get}
 use Rattle.std.specs.Option.{ForSome, option_map}
 use Rattle.std.proofs.lemmas.List.{length-map, length-reverse}
 use Rattle.json_tree.specs.Tree.{Tree}
@@ -9,9 +9,7 @@ use Rattle.shred_cols.specs.Row.{Version}
 use Rattle.col_keeper.specs.Tables.{Name}
 use Rattle.filter_tree.specs.Filters.{FilterTree}
 use Rattle.filter_tree.specs.View.{filter_tree}
-use Rattle.update_ops.specs.declared.fault.UpdateFault.{UpdateFault}
 use Rattle.view_sort.specs.Sort.{SortKeys}
-use Rattle.store_core.specs.declared.entry.Change.{Change}
 use Rattle.store_core.specs.State.{State as Base}
 use Rattle.store_core.specs.declared.entry.Entry.{Entry}
 use Rattle.cmd_grammar.specs.Commands.{CommandTree, command_tree, IsAskable, insert_one, insert_many, find_one, find, count_documents, update_one, update_many, delete_one, delete_many, find_one_and_update, find_one_and_replace, find_one_and_delete, create_collection, find_collections, delete_collection}
@@ -21,11 +19,10 @@ use Rattle.cmd_tasks.specs.Trace.{Sight, sight, point, IsWithin}
 use Rattle.cmd_tasks.specs.Searches.{first_of}
 use Rattle.cmd_tasks.specs.Part.{from_of}
 use Rattle.cmd_tasks.specs.Pages.{found_row}
-use Rattle.cmd_tasks.specs.Doing.{Doing, change_of}
+use Rattle.cmd_tasks.specs.Doing.{Doing}
 use Rattle.cmd_tasks.specs.Jobs.{Job, finds_one, finds, counts, under_ids, job_of}
 use Rattle.cmd_tasks.specs.Insertions.{next_document}
-use Rattle.cmd_tasks.specs.Taking.{Shown, Standing, Put, not_put, was_put, was_taken, at_start, looks_on, looks_again, is_done, gives_up, take_with, turn_put, turn_again, turn_whole, turn_on, turn_of, turn}
-use Rattle.cmd_tasks.specs.Taking.{inserts as inserts_next}
+use Rattle.cmd_tasks.specs.Taking.{not_put, at_start}
 use Rattle.cmd_tasks.specs.Served.{IsOpen, IsOpenOne, IsPartOf, Serves, IsServed, accepted, sights}
 use Rattle.cmd_tasks.specs.Session.{AreWithin, places, written, NoWork, Records, name_of}
 use Rattle.cmd_tasks.specs.Looking.{Made}
@@ -44,6 +41,7 @@ use Rattle.cmd_tasks.specs.declared.trace.Item.TheVariants.{Looked, Wrote, Lost,
 use Rattle.cmd_tasks.proofs.Extension.{sights_more, within_longer, places_more}
 use Rattle.cmd_tasks.proofs.Requests.{accepts, inserts_accepts, cut_off}
 use Rattle.cmd_tasks.proofs.Accepted.{unput_accepts}
+use Rattle.cmd_tasks.proofs.Turnings.{to_put}
 use Rattle.cmd_tasks.proofs.Fresh.{fresh_searching, none_first, match_none}
 use Rattle.cmd_tasks.proofs.Sessions.{sights_snoc, ordered_snoc, within_snoc, written_snoc, places-append}
 
@@ -194,55 +192,6 @@ module _ (base : Base) (coll : Name) (k : ℕ) where
 
   -- ---- as many writes were accepted as the state tells
 
-  -- nothing was inserted before an insertion that comes next
-  unput : (up : Option (Result Tree UpdateFault)) (doing : Doing) (st : Standing) (d : Tree) → turn up doing st ≡ inserts_next d → st.put ≡ not_put
-  unput up doing st d e = by_again st.again e
-    where
-      by_put : (p : Put) (up : Option (Result Tree UpdateFault)) → turn_put p up ≡ inserts_next d → p ≡ not_put
-      by_put not_put up e = refl
-      by_put was_put None e = cc
-      by_put was_put (Some (Ok new)) e = cc
-      by_put was_put (Some (Err fault)) e = cc
-      by_put (was_taken None) None e = cc
-      by_put (was_taken None) (Some (Ok new)) e = cc
-      by_put (was_taken None) (Some (Err fault)) e = cc
-      by_put (was_taken (Some tx)) None e = cc
-      by_put (was_taken (Some tx)) (Some (Ok new)) e = cc
-      by_put (was_taken (Some tx)) (Some (Err fault)) e = cc
-
-      by_count : (b : Bool) → (if b then is_done false else turn_put st.put up) ≡ inserts_next d → st.put ≡ not_put
-      by_count true e = cc
-      by_count false e = by_put st.put up e
-
-      by_end : (b : Bool) → (if b then turn_whole up st else looks_on st.from) ≡ inserts_next d → st.put ≡ not_put
-      by_end true e = by_count (nat_lt 0 st.matched) e
-      by_end false e = cc
-
-      by_change : (s : Shown) (r : Result (Option Change) UpdateFault) → take_with s r ≡ inserts_next d → st.put ≡ not_put
-      by_change s (Ok (Some change)) e = cc
-      by_change s (Ok None) e = cc
-      by_change s (Err fault) e = cc
-
-      by_few : (s : Shown) (b : Bool) → (if b then take_with s (change_of doing s.x.doc) else is_done true) ≡ inserts_next d → st.put ≡ not_put
-      by_few s true e = by_change s (change_of doing s.x.doc) e
-      by_few s false e = cc
-
-      by_queue : (q : List Shown) → turn_on up doing q st ≡ inserts_next d → st.put ≡ not_put
-      by_queue [] e = by_end st.is_whole e
-      by_queue (s ∷ rest) e = by_few s (nat_lt st.matched 20) e
-
-      by_losses : (s : Shown) (b : Bool) → (if b then looks_again s.x.id else gives_up) ≡ inserts_next d → st.put ≡ not_put
-      by_losses s true e = cc
-      by_losses s false e = cc
-
-      by_retried : (q : List Shown) → turn_again q st ≡ inserts_next d → st.put ≡ not_put
-      by_retried [] e = cc
-      by_retried (s ∷ rest) e = by_losses s (nat_lt (length st.losses) 4) e
-
-      by_again : (b : Bool) → turn_of up b doing st ≡ inserts_next d → st.put ≡ not_put
-      by_again true e = by_retried st.queue e
-      by_again false e = by_queue st.queue e
-
   -- of a command that takes many, as many as it counts as changed
   many_so : (many : Many) (n : ℕ) (sights : List Sight) → n ≡ (stands_at base coll k many sights).modified → (stands_at base coll k many sights).put ≡ not_put → IsPartOf base coll k (taking many) sights → accepted sights ≡ n
   many_so many n sights modified unput part = unput_accepts base coll k (filter_tree many.wanted.filter) (doing_of many.doing) many.page.value sights part unput ∙ sym modified
@@ -259,7 +208,7 @@ module _ (base : Base) (coll : Name) (k : ℕ) where
   way_accepts (Trying many stand attempt) sights ready way = many_so many stand.modified sights way.1.1.stands.modified way.1.1.stands.unput way.0.0
   way_accepts (Retrying many stand id) sights ready way = many_so many stand.modified sights way.1.1.stands.modified way.1.1.stands.unput way.0.0
   way_accepts (PuttingMany many stand doc reply) sights ready way =
-      many_so many 0 sights (sym way.1.none_written) (unput (put_for many) (doing_of many.doing) (stands_at base coll k many sights) doc way.1.is) way.0.0
+      many_so many 0 sights (sym way.1.none_written) (to_put (put_for many) (doing_of many.doing) (stands_at base coll k many sights) doc way.1.is).unput way.0.0
   way_accepts Creating sights ready way = ap accepted way.0.1
   way_accepts Dropping sights ready way = ap accepted way.0.1
   way_accepts Naming sights ready way = ap accepted way.0.1

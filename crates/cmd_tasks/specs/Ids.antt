@@ -1,6 +1,5 @@
 -- Ids that are generated: UUIDs of version 4 (RFC 9562) out of ChaCha20 (RFC 8439), as texts.
-use Rattle.std.specs.Prelude.{◌≡◌, ℕ, zero, suc, ◌%◌, ◌^◌, ◌==◌, nat_le, Bool, true, ◌&&◌, ◌||◌, List, [], ◌∷◌, ◌++◌, length}
-use Rattle.std.specs.List.{AllByRecursion as Each}
+use Rattle.std.specs.Prelude.{◌≡◌, ℕ, zero, suc, ◌%◌, ◌^◌, List, [], ◌∷◌, ◌++◌}
 use Rattle.std.specs.Int.{w32, to_be_bytes}
 use Rattle.rand_core.specs.Stream.{Stream, fill_bytes}
 use Rattle.rand_core.specs.Steps.{stream_of, steps_u32}
@@ -8,10 +7,11 @@ use Rattle.rand_chacha.specs.ChaCha.{ChaCha, key_of, next_word}
 use Rattle.uuid.specs.Parts.{v4_of_fill}
 use Rattle.uuid.specs.Text.{lower, hyphenated_text}
 use Rattle.json_tree.specs.Tree.{Tree, text}
+use Rattle.cmd_grammar.specs.Ids.{IsIdText}
 use Rattle.cmd_tasks.specs.declared.ids.Ids.{Ids}
 
 -- a generator at its beginning: its key is the seed and the low 32 bits of the session's number, the highest byte first,
--- and its stream the number of the base's last write
+-- and its stream the number of the first write after the base
 abbrev pub generator : List ℕ → ℕ → ℕ → ChaCha
 generator seed base session = record { key = key_of (seed ++ to_be_bytes w32 (session % 2 ^ 32)); stream = base; word_pos = 0 }
 
@@ -46,14 +46,6 @@ drawn (suc n) s = next_id s ∷ drawn n (after_id s)
 abbrev pub after_drawing : ℕ → Stream → Stream
 after_drawing zero s = s
 after_drawing (suc n) s = after_drawing n (after_id s)
-
--- a digit, one of 'a' to 'f', or a hyphen
-abbrev pub is_id_letter : ℕ → Bool
-is_id_letter b = (nat_le 48 b && nat_le b 57) || (nat_le 97 b && nat_le b 102) || b == 45
-
--- 36 of them
-abbrev pub IsIdText : List ℕ → Type 0
-IsIdText u = (length u ≡ 36) × Each (λ b. is_id_letter b ≡ true) u
 
 -- a text as generated ids are
 abbrev pub IsGenerated : Tree → Type 0

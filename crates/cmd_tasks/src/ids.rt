@@ -24,7 +24,7 @@ pub struct Ids {
 }
 
 impl Ids {
-    /// The generator of a session, over a base whose last write has this number. The key is the seed and the
+    /// The generator of a session, over a base behind which the first write has this number. The key is the seed and the
     /// low 32 bits of the session's number, the highest byte first, and the stream is the base's number.
     pub fn new(seed: &[u8; 28], base_tx: u64, session: u64) -> Ids
         ensures { stream_of_ids result ≡ begins seed.now base_tx session }
