@@ -102,7 +102,7 @@ pub record IsAskablePaging (p : Paging) : Type 0 where
 -- what the store may be asked for
 abbrev pub IsAskable : CommandTree → Type 0
 IsAskable (insert_one t) = IsInsertable t
-IsAskable (insert_many ts ordered) = AllByRecursion IsInsertable ts × (length ts ≤ 100)
+IsAskable (insert_many ts ordered) = AllByRecursion IsInsertable ts × (1 ≤ length ts) × (length ts ≤ 100)
 IsAskable (find_one f sort shows) = IsAskableFilter f
 IsAskable (find f sort shows paging) = IsAskableFilter f × IsAskablePaging paging
 IsAskable (count_documents f) = IsAskableFilter f

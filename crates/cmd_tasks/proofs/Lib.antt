@@ -5,14 +5,21 @@ mod Listing
 mod Ranks
 mod Lasts
 mod Fresh
+mod Misses
 mod PageStates
 mod Glances
 mod Shorts
 mod Keeping
 mod Searching
 mod Requests
+mod Puts
+mod Inserting
+mod Shapes
 mod Selecting
 mod Beginnings
+mod Keys
+mod Texts
+mod Drawing
 mod Accepted
 mod Standing
 mod Running
@@ -20,8 +27,10 @@ mod Opening
 pub mod Attempts
 pub mod Lookback
 mod Fitting
+mod Replies
 pub mod Rounds
 pub mod Tries
+mod Placings
 pub mod Contests
 mod Ascent
 mod Covering
@@ -30,9 +39,12 @@ mod Stepping
 mod Tallying
 mod Reaching
 mod Telling
-mod Deletions
 mod Settling
 mod Goings
+mod Kept
+mod Turnings
+mod Upserted
+mod ManyPuts
 mod Waiting
 mod Apart
 mod Following

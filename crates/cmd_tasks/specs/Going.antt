@@ -1,5 +1,5 @@
 -- How a command that takes many documents goes on behind an item, as far as nothing is asked of the store.
-use Rattle.std.specs.Prelude.{◌≡◌, ◌⊎◌, ℕ, ◌+◌, ◌*◌, ◌<◌, ◌≤◌, List, [], ◌∷◌, length, false, Some, None, ⊤, Ok, Err}
+use Rattle.std.specs.Prelude.{◌≡◌, ◌⊎◌, ℕ, ◌+◌, ◌*◌, ◌<◌, ◌≤◌, List, [], ◌∷◌, length, false, Option, Some, None, ⊤, Result, Ok, Err}
 use Rattle.json_tree.specs.Tree.{Tree}
 use Rattle.shred_cols.specs.Row.{Version, id_of}
 use Rattle.reply_env.specs.Reply.{IsRefusalAfter}
@@ -9,7 +9,7 @@ use Rattle.reply_env.specs.declared.reply.Reply.TheVariants.{UpdatedMany, NoMemo
 use Rattle.update_ops.specs.declared.fault.UpdateFault.{UpdateFault}
 use Rattle.update_ops.specs.declared.fault.UpdateFault.TheVariants as faults
 use Rattle.cmd_tasks.specs.Doing.{Doing, change_of}
-use Rattle.cmd_tasks.specs.Taking.{Shown, Standing, not_put, inserts, turn}
+use Rattle.cmd_tasks.specs.Taking.{Shown, Standing, not_put, inserts, is_refused, turn}
 use Rattle.cmd_tasks.specs.Turns.{so_far_of, Ends}
 use Rattle.cmd_tasks.specs.Many.{doing_of, taking, put_for, IsStand, IsReadyTo, pages_left, stand_left, tries_left, IsStanding, IsAttempted}
 use Rattle.cmd_tasks.specs.Moves.{asked, IsReady, left}
@@ -19,8 +19,8 @@ use Rattle.cmd_tasks.specs.declared.work.State.{State}
 use Rattle.cmd_tasks.specs.declared.work.State.TheVariants.{Paging, Trying, PuttingMany}
 use Rattle.cmd_tasks.specs.declared.work.Moved.{Moved}
 use Rattle.cmd_tasks.specs.declared.work.Moved.TheVariants as m
-use Rattle.cmd_tasks.specs.declared.taking.Met.{Met}
-use Rattle.cmd_tasks.specs.declared.taking.Met.TheVariants as met
+use Rattle.cmd_tasks.specs.declared.meeting.Met.{Met}
+use Rattle.cmd_tasks.specs.declared.meeting.Met.TheVariants as met
 use Rattle.cmd_tasks.specs.declared.taking.Settled.{Settled}
 use Rattle.cmd_tasks.specs.declared.taking.Settled.TheVariants as settled
 use Rattle.cmd_tasks.specs.declared.trace.Item.{Item}
@@ -60,6 +60,20 @@ abbrev pub Settles : Doing → Standing → Settled → Type 0
 Settles doing st (settled.Taken stand attempt) = (st.matched < 20) × IsAttempted doing stand attempt st
 Settles doing st (settled.Untaken stand) = IsStanding stand st st.queue × (st.again ≡ false) × ((st.queue ≡ []) ⊎ (20 ≤ st.matched))
 Settles doing st (settled.Refused stand fault) = ((fault ≡ faults.NoMemory) × (stand.modified ≡ st.modified)) ⊎ IsRefused doing stand fault st
+
+-- ---- where all is listed, and none was counted
+
+-- the document that is inserted then is made, or none is to be; or it is refused, or memory was wanting
+abbrev pub MakesPut : Option (Result Tree UpdateFault) → Result (Option Tree) UpdateFault → Type 0
+MakesPut up (Ok None) = up ≡ None
+MakesPut up (Ok (Some d)) = up ≡ Some (Ok d)
+MakesPut up (Err fault) = (fault ≡ faults.NoMemory) ⊎ (up ≡ Some (Err fault))
+
+-- the change of the document that was to be taken is refused, or the document that was to be inserted is, or memory was wanting
+abbrev pub TurnsDown : declared_many.Many → Stand → UpdateFault → Standing → Type 0
+TurnsDown many stand fault st =
+    ((fault ≡ faults.NoMemory) × (stand.modified ≡ st.modified))
+    ⊎ ((turn (put_for many) (doing_of many.doing) st ≡ is_refused fault) × (stand.matched ≡ st.matched) × (stand.modified ≡ st.modified))
 
 -- ---- what is left of a command where nothing is taken yet: the first one may have been attempted before
 

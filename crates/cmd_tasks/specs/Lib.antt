@@ -18,11 +18,14 @@ pub mod Wanted
 pub mod Looking
 pub mod Finding
 pub mod Searching
+pub mod Puts
 pub mod Ones
 pub mod Many
 pub mod Moves
+pub mod Inserting
 pub mod Going
 pub mod ManySteps
+pub mod First
 pub mod Stands
 pub mod Joined
 pub mod Tally

@@ -1,5 +1,5 @@
 -- Commands that take many documents: what their states keep by themselves, and what they keep of the sights.
-use Rattle.std.specs.Prelude.{◌≡◌, ℕ, ◌+◌, ◌-◌, ◌*◌, ◌<◌, ◌≤◌, List, [], ◌∷◌, length, map, reverse, Bool, true, false, Option, Some, None, ⊤, Result, Ok}
+use Rattle.std.specs.Prelude.{◌≡◌, ℕ, ◌+◌, ◌-◌, ◌*◌, ◌<◌, ◌≤◌, List, [], ◌∷◌, length, map, reverse, Bool, true, false, is_none, Option, Some, None, ⊤, Result, Ok}
 use Rattle.std.specs.List.{AllByRecursion, list_any}
 use Rattle.std.specs.Ordering.{is_lt}
 use Rattle.json_tree.specs.Tree.{Tree}
@@ -61,6 +61,7 @@ pub record IsMany (many : declared_many.Many) : Type 0 where
   pub wanted : IsWanted many.wanted
   pub page : IsAskablePage many.page.value
   pub given : many.given ≡ given_of many.page.value
+  pub is_first : many.is_first ≡ is_none many.page.value
 
 -- nothing is listed yet; the first page begins there
 pub record IsStart (from : Option Tree) (stand : Stand) : Type 0 where

@@ -16,7 +16,7 @@ use Rattle.view_sort.specs.View.{view}
 use Rattle.store_core.specs.State.{State as Base, version}
 use Rattle.store_core.specs.Journal.{IsMadeOfRead}
 use Rattle.store_core.specs.declared.entry.Entry.{Entry}
-use Rattle.cmd_grammar.specs.Commands.{CommandTree, command_tree, Paging as PageOf, IsStorable, IsAskablePaging}
+use Rattle.cmd_grammar.specs.Commands.{CommandTree, command_tree, Paging as PageOf, IsStorable, IsAskablePaging, IsAskable}
 use Rattle.cmd_tasks.specs.Rank.{rank_of}
 use Rattle.cmd_tasks.specs.Trace.{Sight, sight, Found, shown, GoesOn, next_from}
 use Rattle.cmd_tasks.specs.Searches.{bound}
@@ -118,7 +118,7 @@ IsReady (PuttingMany many stand doc reply) = KeepsLimits doc
 IsReady Creating = ⊤
 IsReady Dropping = ⊤
 IsReady Naming = ⊤
-IsReady (Unready command moment ids) = ⊤
+IsReady (Unready command moment ids) = IsAskable (command_tree command.value)
 IsReady (Done reply) = ⊥
 
 -- how many writes of the request were accepted

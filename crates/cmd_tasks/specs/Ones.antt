@@ -9,9 +9,8 @@ use Rattle.reply_env.specs.Messages as errors
 use Rattle.reply_env.specs.declared.reply.Reply.{Reply}
 use Rattle.reply_env.specs.declared.reply.Reply.TheVariants.{NoMemory}
 use Rattle.reply_env.specs.declared.update_errors.Loss.{Loss}
-use Rattle.store_core.specs.declared.entry.Change.{Change}
-use Rattle.cmd_tasks.specs.Doing.{Doing, change_of, upsert_of}
-use Rattle.cmd_tasks.specs.Outcomes.{Outcome, changed, put, Tells, TellsUnwritten, TellsNone, ready}
+use Rattle.cmd_tasks.specs.Doing.{change_of, upsert_of}
+use Rattle.cmd_tasks.specs.Outcomes.{changed, put, Tells, TellsUnwritten, TellsNone, ready}
 use Rattle.cmd_tasks.specs.Many.{doing_of, form_of, IsReadyTo}
 use Rattle.cmd_tasks.specs.Looking.{Refuses}
 use Rattle.cmd_tasks.specs.Searching.{IsFresh}
@@ -24,10 +23,6 @@ use Rattle.cmd_tasks.specs.declared.work.Moved.{Moved}
 use Rattle.cmd_tasks.specs.declared.work.Moved.TheVariants as m
 use Rattle.cmd_tasks.specs.declared.trace.Item.{Item}
 use Rattle.cmd_tasks.specs.declared.trace.Item.TheVariants.{Lost}
-
--- the reply tells the outcome, or memory was wanting
-abbrev pub TellsOrCuts : One → Outcome → Reply → Type 0
-TellsOrCuts one o reply = Tells (doing_of one.doing) (form_of one.form) o reply ⊎ (reply ≡ NoMemory 0)
 
 -- the attempt comes next, of this change of the row, and a reply that tells it is at hand
 pub record Attempts (one : One) (v : Version) (attempt : Attempt) (reply : Reply) : Type 0 where

@@ -49,20 +49,30 @@ count (Some d) = 1
 abbrev pub shown_of : Bool → Outcome → Option Tree
 shown_of after o = if after then o.new else o.old
 
-abbrev pub TellsChanged : Option Tree → Outcome → Reply → Type 0
-TellsChanged d o (FoundAndChanged view matched modified upserted) = (option_map tree view ≡ d) × (matched ≡ count o.old) × (modified ≡ o.modified) × (upserted ≡ o.upserted)
-TellsChanged d o reply = ⊥
+-- the reply shows this document, or none, and the counts of a change
+abbrev pub ShowsChange : Option Tree → Outcome → Reply → Type 0
+ShowsChange d o (FoundAndChanged view matched modified upserted) = (option_map tree view ≡ d) × (matched ≡ count o.old) × (modified ≡ o.modified) × (upserted ≡ o.upserted)
+ShowsChange d o reply = ⊥
 
-abbrev pub TellsDeleted : Option Tree → Outcome → Reply → Type 0
-TellsDeleted d o (FoundAndDeleted view deleted) = (option_map tree view ≡ d) × (deleted ≡ count o.old)
-TellsDeleted d o reply = ⊥
+-- the same of a deletion
+abbrev pub ShowsDeletion : Option Tree → Outcome → Reply → Type 0
+ShowsDeletion d o (FoundAndDeleted view deleted) = (option_map tree view ≡ d) × (deleted ≡ count o.old)
+ShowsDeletion d o reply = ⊥
+
+-- the reply tells the outcome of a change
+abbrev pub TellsChange : Form → Outcome → Reply → Type 0
+TellsChange by_counts o reply = reply ≡ Updated (count o.old) o.modified o.upserted
+TellsChange (shows p after) o reply = ShowsChange (option_map (view p) (shown_of after o)) o reply
+
+-- the reply tells the outcome of a deletion, which shows the document as it was found
+abbrev pub TellsDeletion : Form → Outcome → Reply → Type 0
+TellsDeletion by_counts o reply = reply ≡ Deleted (count o.old)
+TellsDeletion (shows p after) o reply = ShowsDeletion (option_map (view p) o.old) o reply
 
 -- the reply tells the outcome
 abbrev pub Tells : Doing → Form → Outcome → Reply → Type 0
-Tells (makes making up) by_counts o reply = reply ≡ Updated (count o.old) o.modified o.upserted
-Tells (makes making up) (shows p after) o reply = TellsChanged (option_map (view p) (shown_of after o)) o reply
-Tells deletes by_counts o reply = reply ≡ Deleted (count o.old)
-Tells deletes (shows p after) o reply = TellsDeleted (option_map (view p) o.old) o reply
+Tells (makes making up) form o reply = TellsChange form o reply
+Tells deletes form o reply = TellsDeletion form o reply
 
 -- ---- where no write is needed
 

@@ -7,7 +7,7 @@ use Rattle.reply_env.specs.declared.reply.Reply.{Reply}
 use Rattle.json_tree.specs.Tree.{Tree}
 use Rattle.col_keeper.specs.Tables.{Name}
 use Rattle.cmd_grammar.specs.Commands.{CommandTree, find_collections, command_tree}
-use Rattle.cmd_tasks.specs.Jobs.{Job, job_of}
+use Rattle.cmd_tasks.specs.Jobs.{Job, names, job_of}
 use Rattle.cmd_tasks.specs.Served.{sights}
 use Rattle.store_core.specs.Counts.{AllBy}
 use Rattle.cmd_tasks.specs.Session.{Exchange, asks_for, name_of, Records, AreCounted}
@@ -18,7 +18,7 @@ use Rattle.cmd_tasks.specs.declared.trace.Item.{Item}
 use Rattle.cmd_tasks.specs.declared.task.Task.{Task}
 use Rattle.cmd_tasks.specs.declared.task.Served.{Served}
 use Rattle.cmd_tasks.specs.declared.work.State.{State}
-use Rattle.cmd_tasks.specs.declared.work.State.TheVariants.{Naming, Unready, Done}
+use Rattle.cmd_tasks.specs.declared.work.State.TheVariants.{Choosing, Changing, Putting, Paging, Trying, Retrying, PuttingMany, Done}
 
 -- the ids that were drawn for the task
 abbrev pub ids_of : Task → List Tree
@@ -28,22 +28,32 @@ ids_of task = ids_for task.ids.value (command_tree task.command.value)
 abbrev pub job : Task → Job
 job task = job_of task.trace.moment (ids_of task) (command_tree task.command.value)
 
--- the work has its collection, if it is on one
-abbrev pub HasCollection : Option Name → State → Type 0
-HasCollection coll Naming = ⊤
-HasCollection coll (Unready command moment ids) = ⊤
-HasCollection coll w = IsSome coll
+-- the work has the collection that it is on, if it is on one
+abbrev pub HasCollection : Option Name → Job → Type 0
+HasCollection coll names = ⊤
+HasCollection coll job = IsSome coll
 
 -- the same of a command
 abbrev pub IsTargeted : Option Name → CommandTree → Type 0
 IsTargeted coll find_collections = ⊤
 IsTargeted coll c = IsSome coll
 
+-- the work is on documents of which one or many are changed
+abbrev pub IsChange : State → Type 0
+IsChange (Choosing one progress) = ⊤
+IsChange (Changing one attempt reply) = ⊤
+IsChange (Putting one doc reply) = ⊤
+IsChange (Paging many stand) = ⊤
+IsChange (Trying many stand attempt) = ⊤
+IsChange (Retrying many stand id) = ⊤
+IsChange (PuttingMany many stand doc reply) = ⊤
+IsChange w = ⊥
+
 -- the task isn't done, and stands on a history, which begins at this state where that is told
 pub record StandsOn (start : Option Base) (H : List Entry) (task : Task) : Type 0 where
   pub asks : asked task.state ≡ Some (job task)
   pub ready : IsReady task.state
-  pub has_collection : HasCollection task.coll task.state
+  pub has_collection : HasCollection task.coll (job task)
   pub placed : IsPlaced task.session H task.trace.items.items
   pub under_way : ForSome start (λ base. IsUnderWay base (name_of task.coll) task.session task.state (sights H task.trace.items.items))
 

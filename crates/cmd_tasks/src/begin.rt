@@ -1,18 +1,21 @@
 // The states in which requests begin.
-ghost use Rattle.std.specs.Prelude.{◌≡◌, ◌<◌, ◌≤◌, ◌-◌, ◌^◌, None, Some, IfOk};
+ghost use Rattle.std.specs.Prelude.{◌≡◌, ◌≤◌, IfSome};
 ghost use Rattle.std.specs.Option.{option_map};
 ghost use Rattle.filter_tree.specs.View.{filter_tree};
 ghost use Rattle.cmd_grammar.specs.Commands.{IsAskableFilter, IsAskablePage, IsAskablePaging, Paging};
-ghost use Rattle.cmd_tasks.specs.Jobs.{finds_one, finds, changes_one, changes_many, upsert_id, one_if};
+ghost use Rattle.cmd_tasks.specs.Doing.{makes};
+ghost use Rattle.cmd_tasks.specs.Jobs.{finds_one, finds, counts, changes_one, changes_many, upsert_id, one_if};
 ghost use Rattle.cmd_tasks.specs.Ids.{drawn, after_drawing, stream_of_ids};
-ghost use Rattle.cmd_tasks.specs.Part.{given_of, from_of, most_of};
+ghost use Rattle.cmd_tasks.specs.Part.{given_of, most_of};
 ghost use Rattle.cmd_tasks.specs.Moves.{Begins};
-ghost use Rattle.cmd_tasks.specs.Many.{IsStart, doing_of, form_of};
+ghost use Rattle.cmd_tasks.specs.Many.{IsStart, making_of, doing_of, form_of};
 
 use crate::ids::Ids;
-use crate::work::{Doing, Form, Many, One, Part, Progress, Search, Stand, State, Wanted};
+use crate::work::{
+    Doing, Form, Making, Many, One, Part, Progress, Search, Stand, State, Wanted,
+};
 use filter_tree::Filter;
-use json_tree::{DocId, TreeFault};
+use json_tree::DocId;
 use std::alloc::Global;
 use std::snapshot::Snapshot;
 use view_sort::{PageState, Projection, Sort};
@@ -33,6 +36,18 @@ pub(crate) fn selecting(alloc: Global, filter: Filter, sort: Sort, projection: P
         },
         progress: Progress::begin(alloc, None),
         projection,
+    }
+}
+
+/// The state in which countDocuments begins.
+pub(crate) fn counting(alloc: Global, filter: Filter) -> State
+    requires { IsAskableFilter (filter_tree filter) }
+    ensures { Begins (counts (filter_tree filter)) result }
+{
+    State::Counting {
+        wanted: Wanted::new(alloc, filter),
+        last: None,
+        shown: 0,
     }
 }
 
@@ -156,31 +171,36 @@ pub(crate) fn paging_over(
 {
     let snapshot = Snapshot::of(&page);
     let given = given_before(&page);
+    let is_first = page.is_none();
     State::Paging {
         many: Many {
             wanted: Wanted::new(alloc, filter),
             doing,
             given,
+            is_first,
             page: snapshot,
         },
         stand: stand_at(alloc, last_before(page)),
     }
 }
 
-/// The id of a document that may be inserted since none matches, where it is asked for.
-pub(crate) fn upsert_id(
-    alloc: Global,
-    upsert: bool,
-    ids: &mut Ids,
-) -> Result<Option<DocId>, TreeFault>
-    ensures id { IfOk result (λ id. id ≡ upsert_id upsert (drawn (one_if upsert) (stream_of_ids ids.old))) }
+/// What is done to a document that matches: another one is made of it. Where one may be inserted since none matches, its
+/// id is drawn.
+pub(crate) fn making(alloc: Global, making: Making, upsert: bool, ids: &mut Ids) -> Option<Doing>
+    ensures doing { IfSome result (λ doing. doing_of doing ≡ makes (making_of making) (upsert_id upsert (drawn (one_if upsert) (stream_of_ids ids.old)))) }
     ensures after { stream_of_ids ids.new ≡ after_drawing (one_if upsert) (stream_of_ids ids.old) }
 {
     if !upsert {
-        return Ok(None);
+        return Some(Doing::Makes {
+            making,
+            upsert: None,
+        });
     }
     match ids.draw(alloc) {
-        Ok(id) => Ok(Some(id)),
-        Err(fault) => Err(fault),
+        Ok(id) => Some(Doing::Makes {
+            making,
+            upsert: Some(id),
+        }),
+        Err(_) => None,
     }
 }

@@ -1,9 +1,11 @@
 // The steps of the commands on collections: one call of the store.
-ghost use Rattle.std.specs.Prelude.{◌≡◌, ◌+◌, ◌<◌, ◌≤◌, Some, []};
+ghost use Rattle.std.specs.Prelude.{◌≡◌, ◌⊎◌, ◌+◌, ◌<◌, ◌≤◌, Some, None, [], IfOk};
 ghost use Rattle.col_keeper.specs.Tables.{Name};
 ghost use Rattle.store_core.specs.Counts.{opened_in};
 ghost use Rattle.store_core.specs.Store.{IsLawful, SameBase};
 ghost use Rattle.store_core.specs.Growth.{Grows};
+ghost use Rattle.cmd_tasks.specs.Served.{TellsNames};
+ghost use Rattle.cmd_tasks.specs.Looking.{IsLooked};
 ghost use Rattle.cmd_tasks.specs.Moves.{Steps, Promises};
 
 use crate::glance::refuse;
@@ -18,7 +20,9 @@ use std::alloc::Global;
 use store_core::{Listed, Shaped, Store};
 
 /// A look at nothing.
-fn mark(alloc: Global, at: u64) -> Item {
+fn mark(alloc: Global, at: u64) -> Item
+    ensures { IsLooked result at None None [] }
+{
     Item::Looked {
         at,
         after: None,
@@ -95,12 +99,24 @@ pub(crate) fn drop_collection<K: Keeper>(
 }
 
 /// The names of the collections as texts.
-fn texts_of(alloc: Global, names: &[CollName]) -> Result<Vec<Text>, TreeFault> {
+fn texts_of(alloc: Global, names: &[CollName]) -> Result<Vec<Text>, TreeFault>
+    ensures { IfOk result (λ texts. texts.items ≡ names.now) }
+{
     let mut texts = Vec::with_capacity(alloc, names.len())?;
     'names: for name in names {
         texts.push(Text::of_str(alloc, name.text())?)?;
     }
     Ok(texts)
+}
+
+/// The reply that tells the names.
+fn naming(alloc: Global, names: &[CollName]) -> Reply
+    ensures { TellsNames names.now result ⊎ (result ≡ Reply.NoMemory 0) }
+{
+    match texts_of(alloc, names) {
+        Ok(names) => Reply::Names { names },
+        Err(_) => Reply::NoMemory { accepted: 0 },
+    }
 }
 
 /// The names of the collections; this is of no collection.
@@ -117,10 +133,7 @@ pub(crate) fn name_all<K: Keeper>(alloc: Global, store: &mut Store<K>, by: u64) 
     store.journal_len();
     match store.names(alloc, Some(by)) {
         Listed::Names { at, names } => {
-            let reply = match texts_of(alloc, names.as_slice()) {
-                Ok(names) => Reply::Names { names },
-                Err(_) => Reply::NoMemory { accepted: 0 },
-            };
+            let reply = naming(alloc, names.as_slice());
             Moved::Ends {
                 item: mark(alloc, at),
                 reply,

@@ -1,7 +1,8 @@
 // Laws of tasks and sessions: each function does nothing, and its clauses are the laws.
-ghost use Rattle.std.specs.Prelude.{◌≡◌, ◌≢◌, ◌≤◌, ◌+◌, ℕ, ℤ, List, Option, length, slice_get, slice_set, [], ◌∷◌, ◌++◌, Some, None, true};
+ghost use Rattle.std.specs.Prelude.{◌≡◌, ◌≢◌, ◌≤◌, ◌+◌, ℕ, ℤ, Bool, List, Option, length, slice_get, slice_set, [], ◌∷◌, ◌++◌, Some, None, true};
 ghost use Rattle.std.specs.List.{AllByRecursion as Each};
 ghost use Rattle.std.specs.Option.{ForSome};
+ghost use Rattle.json_tree.specs.Tree.{Tree};
 ghost use Rattle.shred_cols.specs.Rows.{ascends};
 ghost use Rattle.col_keeper.specs.Tables.{Name};
 ghost use Rattle.reply_env.specs.declared.reply.Reply.{Reply as Answer};
@@ -18,7 +19,8 @@ ghost use Rattle.cmd_grammar.specs.Commands.{CommandTree, Shows, command_tree, u
 ghost use Rattle.cmd_tasks.specs.Served.{IsServed, sights};
 ghost use Rattle.cmd_tasks.specs.Session.{Exchange, IsSession, IsAnswered, AreSessions, AreWithin, NoWork, Records};
 ghost use Rattle.cmd_tasks.specs.Joined.{Page, IdsAreTold, ArePages, ShowEachOnce};
-ghost use Rattle.cmd_tasks.specs.Doing.{updates, deletes};
+ghost use Rattle.cmd_tasks.specs.Doing.{makes, updates, deletes};
+ghost use Rattle.cmd_tasks.specs.Jobs.{upsert_id};
 ghost use Rattle.cmd_tasks.specs.Tally.{AreTaken};
 ghost use Rattle.cmd_tasks.specs.Moves.{accepted_by};
 ghost use Rattle.cmd_tasks.specs.Stands.{StandsOn};
@@ -93,11 +95,13 @@ pub fn pages_show_each_once()
 /// Each document that matched when updateMany or deleteMany looked at its page is counted once, or another session changed it
 /// behind that look and then it no longer matched, or the command ended before its turn: then the reply tells that more match,
 /// or an error, or want of memory. The counts of the reply are those of the documents that were counted, and of the writes. Where
-/// the reply tells that no more match, pages came by each id behind the start. This holds where the rows of the base ascend, as
-/// a keeper's tables do.
+/// the reply tells that no more match, pages came by each id behind the start. updateMany inserts a document only where none was
+/// counted and pages came by each id, by one write more. A reply with counts tells its id, and there is one wherever one is to be
+/// inserted and none was counted. This holds where the rows of the base ascend, as a keeper's tables do.
 pub fn each_match_is_counted()
-    ensures updated { (base : Base) (history : List Journaled) (coll : Name) (k : ℕ) (moment : ℤ) (f : FilterTree) (u : List Clause) (page : Option PageState) (trace : List Seen) (reply : Answer)
-        → Each (λ c. ascends c.rows ≡ true) base.collections → IsServed base history coll k moment (update_many f u page) trace reply → AreTaken base coll k f (updates u moment) page (sights history trace) reply }
-    ensures deleted { (base : Base) (history : List Journaled) (coll : Name) (k : ℕ) (moment : ℤ) (f : FilterTree) (trace : List Seen) (reply : Answer)
-        → Each (λ c. ascends c.rows ≡ true) base.collections → IsServed base history coll k moment (delete_many f) trace reply → AreTaken base coll k f deletes None (sights history trace) reply }
+    ensures updated { (base : Base) (history : List Journaled) (coll : Name) (k : ℕ) (moment : ℤ) (ids : List Tree) (f : FilterTree) (u : List Clause) (upsert : Bool) (page : Option PageState) (trace : List Seen) (reply : Answer)
+        → Each (λ c. ascends c.rows ≡ true) base.collections → IsServed base history coll k moment ids (update_many f u upsert page) trace reply
+        → AreTaken base coll k f (makes (updates u moment) (upsert_id upsert ids)) page (sights history trace) reply }
+    ensures deleted { (base : Base) (history : List Journaled) (coll : Name) (k : ℕ) (moment : ℤ) (ids : List Tree) (f : FilterTree) (trace : List Seen) (reply : Answer)
+        → Each (λ c. ascends c.rows ≡ true) base.collections → IsServed base history coll k moment ids (delete_many f) trace reply → AreTaken base coll k f deletes None (sights history trace) reply }
 {}

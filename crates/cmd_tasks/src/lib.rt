@@ -12,19 +12,19 @@ mod laws;
 mod many;
 mod meeting;
 mod one;
+mod outcomes;
 mod run;
 mod search;
 mod steps;
 mod taking;
 mod task;
-mod telling;
 #[cfg(test)]
 mod tests;
 mod trace;
 mod upserts;
 mod work;
 
-pub use ids::Ids;
+pub use ids::{Ids, drawn_ids_are_texts};
 pub use laws::{
     a_request_begins, a_request_ends, a_session_opens, a_step_is_made, a_task_may_be_cut_off,
     one_session_steps, others_may_append, others_may_write, pages_show_each_once,

@@ -1,27 +1,29 @@
 // The steps of a command that changes one document: a search for the first match, an attempt on it, or the insertion of
 // a document where none matches.
-ghost use Rattle.std.specs.Prelude.{◌≡◌, ◌+◌, ◌<◌, ◌≤◌, ◌++◌, ◌∷◌, [], None, Some, length, IfSome};
+ghost use Rattle.std.specs.Prelude.{◌≡◌, ◌+◌, ◌<◌, ◌≤◌, ◌++◌, ◌∷◌, [], None, Some, Ok, IfSome};
 ghost use Rattle.shred_cols.specs.Row.{id_of};
+ghost use Rattle.filter_tree.specs.View.{filter_tree};
 ghost use Rattle.col_keeper.specs.Tables.{IsShort, KeepsLimits};
 ghost use Rattle.reply_env.specs.Messages as errors;
 ghost use Rattle.store_core.specs.Counts.{opened_in};
 ghost use Rattle.store_core.specs.Store.{IsLawful, SameBase, AtState};
 ghost use Rattle.store_core.specs.Growth.{Grows};
+ghost use Rattle.cmd_tasks.specs.Doing.{change_of, upsert_of};
+ghost use Rattle.cmd_tasks.specs.Outcomes.{ready};
 ghost use Rattle.cmd_tasks.specs.Looking.{AreShort, Refuses};
-ghost use Rattle.cmd_tasks.specs.Many.{IsReadyTo};
-ghost use Rattle.cmd_tasks.specs.Outcomes.{none_found, unchanged, changed, put as put_in};
-ghost use Rattle.cmd_tasks.specs.Ones.{TellsOrCuts, Takes, Misses, Chooses, LosesTo};
+ghost use Rattle.cmd_tasks.specs.Many.{doing_of, IsReadyTo};
+ghost use Rattle.cmd_tasks.specs.Going.{Meets};
+ghost use Rattle.cmd_tasks.specs.Ones.{Takes, Misses, Chooses, LosesTo};
 ghost use Rattle.cmd_tasks.specs.Moves.{Steps, Promises, IsOne, Fits};
 
 use crate::glance::refuse;
 use crate::insertions::put_in_place;
-use crate::meeting::{Met, declined, meet};
+use crate::meeting::{Met, declined, meet, to_insert};
+use crate::outcomes::{tell_changed, tell_none, tell_put, tell_unchanged};
 use crate::search::search;
 use crate::steps::{ends_of, failed, marked};
-use crate::telling::{tell_changed, tell_none, tell_put, tell_unchanged};
 use crate::trace::Item;
-use crate::upserts::upserted_document;
-use crate::work::{Attempt, Doing, Moved, One, Progress, Searched, State};
+use crate::work::{Attempt, Moved, One, Progress, Searched, State};
 use col_keeper::Keeper;
 use doc_paths::CollName;
 use json_tree::Doc;
@@ -29,23 +31,41 @@ use reply_env::{Loss, Reply, lost_writes, no_collection, versions_spent};
 use shred_cols::Row;
 use std::alloc::Global;
 use store_core::{Store, WriteOutcome, entries_tell_numbers, numbers_are_given_once};
-use update_ops::UpdateFault;
 
 /// So many attempts may be lost.
 pub(crate) const MOST: usize = 4;
 
 /// The attempt on the row comes next, with the reply that tells it.
-fn attempted(alloc: Global, one: One, item: Item, row: &Row, attempt: Attempt) -> Moved {
-    let reply = tell_changed(alloc, &one.doing, &one.form, row.doc(), &attempt.change);
-    if let Reply::NoMemory { .. } = reply {
-        return Moved::Ends { item, reply };
+fn attempted(alloc: Global, one: One, item: Item, row: &Row, attempt: Attempt) -> Moved
+    requires { Meets (doing_of one.doing) row.now (Met.Changed attempt) }
+    ensures { Takes one item row.now result }
+{
+    match tell_changed(alloc, &one.doing, &one.form, row.doc(), &attempt.change) {
+        Ok(reply) => Moved::Goes {
+            item,
+            state: State::Changing {
+                one,
+                attempt,
+                reply,
+            },
+        },
+        Err(_) => Moved::Ends {
+            item,
+            reply: Reply::NoMemory { accepted: 0 },
+        },
     }
-    Moved::Goes {
-        item,
-        state: State::Changing {
-            one,
-            attempt,
-            reply,
+}
+
+/// The row stays as it is, and the reply tells it.
+fn left_alone(alloc: Global, one: One, item: Item, row: &Row) -> Moved
+    requires { change_of (doing_of one.doing) row.now.doc ≡ Ok None }
+    ensures { Takes one item row.now result }
+{
+    match tell_unchanged(alloc, &one.form, row.doc()) {
+        Ok(reply) => Moved::Ends { item, reply },
+        Err(_) => Moved::Ends {
+            item,
+            reply: Reply::NoMemory { accepted: 0 },
         },
     }
 }
@@ -57,10 +77,7 @@ fn taken(alloc: Global, one: One, item: Item, row: &Row) -> Moved
 {
     match meet(alloc, &one.doing, row) {
         Met::Changed(attempt) => attempted(alloc, one, item, row, attempt),
-        Met::Unchanged(_) => {
-            let reply = tell_unchanged(alloc, &one.doing, &one.form, row.doc());
-            Moved::Ends { item, reply }
-        }
+        Met::Unchanged(_) => left_alone(alloc, one, item, row),
         Met::Refused(fault) => Moved::Ends {
             item,
             reply: declined(alloc, fault),
@@ -68,15 +85,21 @@ fn taken(alloc: Global, one: One, item: Item, row: &Row) -> Moved
     }
 }
 
-/// The document that is to be inserted since none was found, if one is.
-fn to_put(alloc: Global, one: &One) -> Option<Result<Doc, UpdateFault>> {
-    match &one.doing {
-        Doing::Makes {
-            making,
-            upsert: Some(id),
-        } => Some(upserted_document(alloc, &one.search.wanted.filter, making, id)),
-        Doing::Makes { upsert: None, .. } => None,
-        Doing::Deletes => None,
+/// The insertion of the document comes next, with the reply that tells it.
+fn put_next(alloc: Global, one: One, item: Item, doc: Doc) -> Moved
+    requires document { ready (upsert_of (filter_tree one.search.wanted.filter) (doing_of one.doing)) ≡ Some doc }
+    requires limits { KeepsLimits doc }
+    ensures { Misses one item result }
+{
+    match tell_put(alloc, &one.form, &doc) {
+        Ok(reply) => Moved::Goes {
+            item,
+            state: State::Putting { one, doc, reply },
+        },
+        Err(_) => Moved::Ends {
+            item,
+            reply: Reply::NoMemory { accepted: 0 },
+        },
     }
 }
 
@@ -84,25 +107,16 @@ fn to_put(alloc: Global, one: &One) -> Option<Result<Doc, UpdateFault>> {
 fn missed(alloc: Global, one: One, item: Item) -> Moved
     ensures { Misses one item result }
 {
-    match to_put(alloc, &one) {
-        None => {
-            let reply = tell_none(&one.doing, &one.form);
-            Moved::Ends { item, reply }
-        }
-        Some(Err(fault)) => Moved::Ends {
+    match to_insert(alloc, &one.search.wanted.filter, &one.doing) {
+        Ok(Some(doc)) => put_next(alloc, one, item, doc),
+        Ok(None) => Moved::Ends {
+            item,
+            reply: tell_none(&one.doing, &one.form),
+        },
+        Err(fault) => Moved::Ends {
             item,
             reply: declined(alloc, fault),
         },
-        Some(Ok(doc)) => {
-            let reply = tell_put(alloc, &one.form, &doc);
-            if let Reply::NoMemory { .. } = reply {
-                return Moved::Ends { item, reply };
-            }
-            Moved::Goes {
-                item,
-                state: State::Putting { one, doc, reply },
-            }
-        }
     }
 }
 

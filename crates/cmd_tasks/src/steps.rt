@@ -22,7 +22,7 @@ use std::alloc::Global;
 use store_core::Store;
 
 /// A look at nothing, in the place of the write of this id.
-fn mark(alloc: Global, at: u64, id: DocId, twin: DocId) -> Item
+pub(crate) fn mark(alloc: Global, at: u64, id: DocId, twin: DocId) -> Item
     ensures { IsLooked result at (Some id) (Some twin) [] }
 {
     Item::Looked {

@@ -1,5 +1,5 @@
 // A task.
-ghost use Rattle.std.specs.Prelude.{◌≡◌, ⊤, ℕ, ◌+◌, ◌<◌, ◌≤◌, List, Option, Some, None, true, []};
+ghost use Rattle.std.specs.Prelude.{◌≡◌, ⊤, ◌+◌, ◌<◌, ◌≤◌, List, Option, Some, None, IfSome, []};
 ghost use Rattle.std.specs.Option.{ForSome};
 ghost use Rattle.store_core.specs.Counts.{opened_in};
 ghost use Rattle.store_core.specs.State.{State as Base};
@@ -8,11 +8,11 @@ ghost use Rattle.store_core.specs.Growth.{Grows};
 ghost use Rattle.store_core.specs.declared.entry.Entry.{Entry as Journaled};
 ghost use Rattle.cmd_grammar.specs.Commands.{command_tree, IsAskable};
 ghost use Rattle.cmd_tasks.specs.Served.{IsServed};
-ghost use Rattle.cmd_tasks.specs.Moves.{Steps, Promises, IsReady, Begins, Fits, left, accepted_by};
+ghost use Rattle.cmd_tasks.specs.Moves.{asked, Steps, Promises, IsReady, Begins, Fits, left, accepted_by};
 ghost use Rattle.cmd_tasks.specs.Jobs.{draws};
 ghost use Rattle.cmd_tasks.specs.Ids.{after_drawing, stream_of_ids};
 ghost use Rattle.cmd_tasks.specs.Session.{name_of};
-ghost use Rattle.cmd_tasks.specs.Stands.{StandsOn, HasCollection, IsTargeted, ids_of, job, IsSame, Adds, IfDone};
+ghost use Rattle.cmd_tasks.specs.Stands.{StandsOn, HasCollection, IsChange, IsTargeted, ids_of, job, IsSame, Adds, IfDone};
 
 use crate::collections::{create, drop_collection, name_all};
 use crate::finds::{list, select};
@@ -52,8 +52,8 @@ pub enum Next {
     Done,
 }
 
-/// One step of the work on a collection.
-fn advance<K: Keeper>(
+/// One step of the work on documents of which one or many are changed.
+fn advance_changes<K: Keeper>(
     alloc: Global,
     store: &mut Store<K>,
     by: u64,
@@ -62,6 +62,7 @@ fn advance<K: Keeper>(
 ) -> Moved
     requires known { by < opened_in store.old.journal }
     requires ready { IsReady state }
+    requires changes { IsChange state }
     requires fits { AtState store.old (λ s. Fits s coll.now state) }
     ensures steps { Steps by (K.failed store.old.keeper) (K.failed store.new.keeper) state store.old.journal store.new.journal result }
     ensures leads { Promises store.old.start coll.now by store.old.journal store.new.journal state result }
@@ -72,22 +73,6 @@ fn advance<K: Keeper>(
     ensures lawful { IsLawful store.new }
 {
     match state {
-        State::Inserting { insertions } => insert(alloc, store, by, coll, insertions),
-        State::Selecting {
-            search,
-            progress,
-            projection,
-        } => select(alloc, store, by, coll, search, progress, projection),
-        State::Listing {
-            search,
-            progress,
-            part,
-        } => list(alloc, store, by, coll, search, progress, part),
-        State::Counting {
-            wanted,
-            last,
-            shown,
-        } => count(alloc, store, by, coll, wanted, last, shown),
         State::Choosing { one, progress } => choose(alloc, store, by, coll, one, progress),
         State::Changing {
             one,
@@ -110,15 +95,57 @@ fn advance<K: Keeper>(
             doc,
             reply,
         } => put_one(alloc, store, by, coll, many, stand, doc, reply),
+        _ => unreachable!(),
+    }
+}
+
+/// One step of the work on a collection.
+fn advance_on<K: Keeper>(
+    alloc: Global,
+    store: &mut Store<K>,
+    by: u64,
+    coll: &CollName,
+    state: State,
+) -> Moved
+    requires known { by < opened_in store.old.journal }
+    requires ready { IsReady state }
+    requires fits { AtState store.old (λ s. Fits s coll.now state) }
+    ensures steps { Steps by (K.failed store.old.keeper) (K.failed store.new.keeper) state store.old.journal store.new.journal result }
+    ensures leads { Promises store.old.start coll.now by store.old.journal store.new.journal state result }
+    ensures base { SameBase store.old store.new }
+    ensures grows { Grows (Some by) store.old.journal store.new.journal }
+    ensures faults { K.failed store.old.keeper ≤ K.failed store.new.keeper }
+    ensures work { K.called store.new.keeper ≤ K.called store.old.keeper + 1 }
+    ensures lawful { IsLawful store.new }
+{
+    store.journal_len();
+    match state {
+        State::Inserting { insertions } => insert(alloc, store, by, coll, insertions),
+        State::Selecting {
+            search,
+            progress,
+            projection,
+        } => select(alloc, store, by, coll, search, progress, projection),
+        State::Listing {
+            search,
+            progress,
+            part,
+        } => list(alloc, store, by, coll, search, progress, part),
+        State::Counting {
+            wanted,
+            last,
+            shown,
+        } => count(alloc, store, by, coll, wanted, last, shown),
         State::Creating => create(alloc, store, by, coll),
         State::Dropping => drop_collection(alloc, store, by, coll),
         State::Naming => name_all(alloc, store, by),
         State::Unready { .. } => Moved::NoMemory,
         State::Done { reply: _ } => unreachable!(),
+        changes => advance_changes(alloc, store, by, coll, changes),
     }
 }
 
-/// One step of the work on no collection.
+/// One step of the work that is on no collection.
 fn advance_outside<K: Keeper>(
     alloc: Global,
     store: &mut Store<K>,
@@ -126,7 +153,8 @@ fn advance_outside<K: Keeper>(
     state: State,
 ) -> Moved
     requires known { by < opened_in store.old.journal }
-    requires outside { HasCollection None state }
+    requires ready { IsReady state }
+    requires outside { IfSome (asked state) (HasCollection None) }
     ensures steps { Steps by (K.failed store.old.keeper) (K.failed store.new.keeper) state store.old.journal store.new.journal result }
     ensures leads { Promises store.old.start [] by store.old.journal store.new.journal state result }
     ensures base { SameBase store.old store.new }
@@ -140,6 +168,32 @@ fn advance_outside<K: Keeper>(
         State::Naming => name_all(alloc, store, by),
         State::Unready { .. } => Moved::NoMemory,
         _ => unreachable!(),
+    }
+}
+
+/// One step of the work.
+fn advance<K: Keeper>(
+    alloc: Global,
+    store: &mut Store<K>,
+    by: u64,
+    coll: &Option<CollName>,
+    state: State,
+) -> Moved
+    requires known { by < opened_in store.old.journal }
+    requires ready { IsReady state }
+    requires collection { IfSome (asked state) (HasCollection coll.now) }
+    requires fits { AtState store.old (λ s. Fits s (name_of coll.now) state) }
+    ensures steps { Steps by (K.failed store.old.keeper) (K.failed store.new.keeper) state store.old.journal store.new.journal result }
+    ensures leads { Promises store.old.start (name_of coll.now) by store.old.journal store.new.journal state result }
+    ensures base { SameBase store.old store.new }
+    ensures grows { Grows (Some by) store.old.journal store.new.journal }
+    ensures faults { K.failed store.old.keeper ≤ K.failed store.new.keeper }
+    ensures work { K.called store.new.keeper ≤ K.called store.old.keeper + 1 }
+    ensures lawful { IsLawful store.new }
+{
+    match coll {
+        Some(coll) => advance_on(alloc, store, by, coll, state),
+        None => advance_outside(alloc, store, by, state),
     }
 }
 
@@ -213,11 +267,7 @@ impl Task {
         if self.trace.items.reserve(1).is_err() {
             return Next::Done;
         }
-        let moved = match &self.coll {
-            Some(coll) => advance(alloc, store, self.session, coll, state),
-            None => advance_outside(alloc, store, self.session, state),
-        };
-        match moved {
+        match advance(alloc, store, self.session, &self.coll, state) {
             Moved::Goes { item, state } => {
                 self.trace.items.push_reserved(item);
                 self.state = state;

@@ -145,12 +145,13 @@ pub(crate) struct Insertions {
 }
 
 /// Many documents that are to be updated or deleted. `given` is how many were counted before the page that `page`
-/// tells, which takes no memory.
+/// tells, which takes no memory; where it tells none, this is the first page.
 #[derive(Drop)]
 pub(crate) struct Many {
     pub(crate) wanted: Wanted,
     pub(crate) doing: Doing,
     pub(crate) given: u64,
+    pub(crate) is_first: bool,
     pub(crate) page: Snapshot<Option<PageState>>,
 }
 

@@ -67,7 +67,7 @@ fn run_store<S: Source, W: Sink, E: Sink, K: Keeper, C: Clock>(
     seed: &[u8; 28],
 ) -> (u8, K)
     ensures ran { (how : RunHow) × (result.0 ≡ status_of how) × IsNoted (E.writing notes.old) (E.writing notes.new) (note_of how)
-        × (EndsStore K.tables K.failed keyspace.now store (C.times clock.old) result.1 (S.reading source.old) (S.reading source.new) (W.writing sink.old) (W.writing sink.new) how
+        × (EndsStore K.tables K.failed keyspace.now seed.now store (C.times clock.old) result.1 (S.reading source.old) (S.reading source.new) (W.writing sink.old) (W.writing sink.new) how
         ⊎ ((how ≡ RunHow.NoMemory) × (source.new ≡ source.old) × (sink.new ≡ sink.old)
         × (K.tables result.1 ≡ option_map (λ s. tables_of (replay s store.journal)) store.start))) }
     ensures bounded { (count : ℕ) × (count ≤ 2 ^ 40) × HasRead (S.reading source.old) (S.reading source.new) count }
@@ -95,7 +95,7 @@ pub fn dapi<S: Source, W: Sink, E: Sink, K: Keeper, C: Clock>(
     seed: &[u8; 28],
 ) -> (u8, K)
     // Every line was read, its request served, and the replies to all of them were written, in order, and nothing else.
-    ensures answered { result.0 ≡ 0 → Runs K.tables K.failed (map string_bytes words.now) keeper result.1 (C.times clock.old)
+    ensures answered { result.0 ≡ 0 → Runs K.tables K.failed (map string_bytes words.now) keeper result.1 seed.now (C.times clock.old)
         (λ Served. ServesInput Served (S.reading source.old) (S.reading source.new) (W.writing sink.old) (W.writing sink.new)) }
 
     // The words are no command's; nothing was read, written or kept.
@@ -105,12 +105,12 @@ pub fn dapi<S: Source, W: Sink, E: Sink, K: Keeper, C: Clock>(
 
     // The source failed; the replies to the requests of all whole lines that were read stand.
     ensures read_fault { result.0 ≡ 2 → Rose (S.reading source.old).failed (S.reading source.new).failed }
-    ensures read_so_far { result.0 ≡ 2 → Runs K.tables K.failed (map string_bytes words.now) keeper result.1 (C.times clock.old)
+    ensures read_so_far { result.0 ≡ 2 → Runs K.tables K.failed (map string_bytes words.now) keeper result.1 seed.now (C.times clock.old)
         (λ Served. (count : ℕ) × (count < 2 ^ 40) × ServesWholeLines Served (S.reading source.old) (S.reading source.new) (W.writing sink.old) (W.writing sink.new) count) }
 
     // The sink failed or ended; a front of the replies to the requests of some first lines stands.
     ensures write_fault { result.0 ≡ 3 → IsHindered (W.writing sink.old) (W.writing sink.new) }
-    ensures written_so_far { result.0 ≡ 3 → Runs K.tables K.failed (map string_bytes words.now) keeper result.1 (C.times clock.old)
+    ensures written_so_far { result.0 ≡ 3 → Runs K.tables K.failed (map string_bytes words.now) keeper result.1 seed.now (C.times clock.old)
         (λ Served. ServesCut Served (S.reading source.old) (S.reading source.new) (W.writing sink.old) (W.writing sink.new)) }
 
     // The store couldn't be opened: a call of the keeper failed, or over 100 collections would live. Nothing was read or written.
@@ -123,17 +123,17 @@ pub fn dapi<S: Source, W: Sink, E: Sink, K: Keeper, C: Clock>(
         → ForSome (K.tables keeper) (λ t. 100 < would_live collections t → (result.0 ≡ 4) ⊎ (result.0 ≡ 9)) }
 
     // So many bytes were read; the replies to the requests of all whole lines among them stand.
-    ensures too_long { result.0 ≡ 5 → Runs K.tables K.failed (map string_bytes words.now) keeper result.1 (C.times clock.old)
+    ensures too_long { result.0 ≡ 5 → Runs K.tables K.failed (map string_bytes words.now) keeper result.1 seed.now (C.times clock.old)
         (λ Served. ServesWholeLines Served (S.reading source.old) (S.reading source.new) (W.writing sink.old) (W.writing sink.new) (2 ^ 40)) }
 
     // A line isn't of its form; the replies to the requests of all lines before it stand.
     ensures wrong_line { result.0 ≡ 6 → (line : ℕ) × IsNoted (E.writing notes.old) (E.writing notes.new) (line_note line)
-        × Runs K.tables K.failed (map string_bytes words.now) keeper result.1 (C.times clock.old)
+        × Runs K.tables K.failed (map string_bytes words.now) keeper result.1 seed.now (C.times clock.old)
         (λ Served. ServesBefore Served (S.reading source.old) (S.reading source.new) (W.writing sink.old) (W.writing sink.new) line) }
 
     // Memory ran out outside of a request: before anything was read or written, and the keeper has perhaps some of the missing collections more; or the replies to some first requests stand, of the last perhaps a front.
     ensures no_memory { result.0 ≡ 9 → ((source.new ≡ source.old) × (sink.new ≡ sink.old) × ServesNone K.tables K.failed (map string_bytes words.now) keeper result.1)
-        ⊎ Runs K.tables K.failed (map string_bytes words.now) keeper result.1 (C.times clock.old)
+        ⊎ Runs K.tables K.failed (map string_bytes words.now) keeper result.1 seed.now (C.times clock.old)
         (λ Served. ServesFirst Served (S.reading source.old) (S.reading source.new) (W.writing sink.old) (W.writing sink.new)) }
 
     ensures statuses { IsTrue (is_status result.0) }

@@ -11,38 +11,38 @@ returns-in-Err-clause-overfull g c = λ keyspace collections run t told over. in
 
 pub returns-in-Ok-open-clause-answered : goal.returns-in-Ok-open-clause-answered
 returns-in-Ok-open-clause-answered g c = let ran = c.run_store.ensures.ran in let opened = c.in-Ok-open.ensures in
-    λ e. ran_whole g.K.Keeper.tables g.K.Keeper.failed (map string_bytes c.args.words.now) c.args.keeper c.run_store.result.1 c.text.result.now c.as_slice.result.now c.in-Ok-open.store (g.C.Clock.times c.args.clock.now)
-    (asked_as _ c.in-Ok.job.keyspace c.text.result.now c.in-Ok.job.collections.items c.as_slice.result.now c.text.ensures.value c.as_slice.ensures.value c.in-Ok.ensures.ok) opened.begins opened.tables opened.start opened.faults
+    λ e. ran_whole g.K.Keeper.tables g.K.Keeper.failed (map string_bytes c.args.words.now) c.args.keeper c.run_store.result.1 c.text.result.now c.args.seed.now c.as_slice.result.now c.in-Ok-open.store (g.C.Clock.times c.args.clock.now)
+    (asked_as _ c.in-Ok.job.keyspace c.text.result.now c.in-Ok.job.collections.items c.as_slice.result.now c.text.ensures.value c.as_slice.ensures.value c.in-Ok.ensures.ok) opened.begins opened.tables opened.start opened.first opened.faults
     c.args.source.now c.run_store.new.source c.args.sink.now c.run_store.new.sink _ _ _ _ c.run_store.result.0 ran.0 ran.1 ran.3 e
 
 pub returns-in-Ok-open-clause-read_so_far : goal.returns-in-Ok-open-clause-read_so_far
 returns-in-Ok-open-clause-read_so_far g c = let ran = c.run_store.ensures.ran in let opened = c.in-Ok-open.ensures in
-    λ e. ran_unread g.K.Keeper.tables g.K.Keeper.failed (map string_bytes c.args.words.now) c.args.keeper c.run_store.result.1 c.text.result.now c.as_slice.result.now c.in-Ok-open.store (g.C.Clock.times c.args.clock.now)
-    (asked_as _ c.in-Ok.job.keyspace c.text.result.now c.in-Ok.job.collections.items c.as_slice.result.now c.text.ensures.value c.as_slice.ensures.value c.in-Ok.ensures.ok) opened.begins opened.tables opened.start opened.faults
+    λ e. ran_unread g.K.Keeper.tables g.K.Keeper.failed (map string_bytes c.args.words.now) c.args.keeper c.run_store.result.1 c.text.result.now c.args.seed.now c.as_slice.result.now c.in-Ok-open.store (g.C.Clock.times c.args.clock.now)
+    (asked_as _ c.in-Ok.job.keyspace c.text.result.now c.in-Ok.job.collections.items c.as_slice.result.now c.text.ensures.value c.as_slice.ensures.value c.in-Ok.ensures.ok) opened.begins opened.tables opened.start opened.first opened.faults
     c.args.source.now c.run_store.new.source c.args.sink.now c.run_store.new.sink _ _ _ _ c.run_store.result.0 ran.0 ran.1 ran.3 e
 
 pub returns-in-Ok-open-clause-written_so_far : goal.returns-in-Ok-open-clause-written_so_far
 returns-in-Ok-open-clause-written_so_far g c = let ran = c.run_store.ensures.ran in let opened = c.in-Ok-open.ensures in
-    λ e. ran_unwritten g.K.Keeper.tables g.K.Keeper.failed (map string_bytes c.args.words.now) c.args.keeper c.run_store.result.1 c.text.result.now c.as_slice.result.now c.in-Ok-open.store (g.C.Clock.times c.args.clock.now)
-    (asked_as _ c.in-Ok.job.keyspace c.text.result.now c.in-Ok.job.collections.items c.as_slice.result.now c.text.ensures.value c.as_slice.ensures.value c.in-Ok.ensures.ok) opened.begins opened.tables opened.start opened.faults
+    λ e. ran_unwritten g.K.Keeper.tables g.K.Keeper.failed (map string_bytes c.args.words.now) c.args.keeper c.run_store.result.1 c.text.result.now c.args.seed.now c.as_slice.result.now c.in-Ok-open.store (g.C.Clock.times c.args.clock.now)
+    (asked_as _ c.in-Ok.job.keyspace c.text.result.now c.in-Ok.job.collections.items c.as_slice.result.now c.text.ensures.value c.as_slice.ensures.value c.in-Ok.ensures.ok) opened.begins opened.tables opened.start opened.first opened.faults
     c.args.source.now c.run_store.new.source c.args.sink.now c.run_store.new.sink _ _ _ _ c.run_store.result.0 ran.0 ran.1 ran.3 e
 
 pub returns-in-Ok-open-clause-too_long : goal.returns-in-Ok-open-clause-too_long
 returns-in-Ok-open-clause-too_long g c = let ran = c.run_store.ensures.ran in let opened = c.in-Ok-open.ensures in
-    λ e. ran_long g.K.Keeper.tables g.K.Keeper.failed (map string_bytes c.args.words.now) c.args.keeper c.run_store.result.1 c.text.result.now c.as_slice.result.now c.in-Ok-open.store (g.C.Clock.times c.args.clock.now)
-    (asked_as _ c.in-Ok.job.keyspace c.text.result.now c.in-Ok.job.collections.items c.as_slice.result.now c.text.ensures.value c.as_slice.ensures.value c.in-Ok.ensures.ok) opened.begins opened.tables opened.start opened.faults
+    λ e. ran_long g.K.Keeper.tables g.K.Keeper.failed (map string_bytes c.args.words.now) c.args.keeper c.run_store.result.1 c.text.result.now c.args.seed.now c.as_slice.result.now c.in-Ok-open.store (g.C.Clock.times c.args.clock.now)
+    (asked_as _ c.in-Ok.job.keyspace c.text.result.now c.in-Ok.job.collections.items c.as_slice.result.now c.text.ensures.value c.as_slice.ensures.value c.in-Ok.ensures.ok) opened.begins opened.tables opened.start opened.first opened.faults
     c.args.source.now c.run_store.new.source c.args.sink.now c.run_store.new.sink _ _ _ _ c.run_store.result.0 ran.0 ran.1 ran.3 e
 
 pub returns-in-Ok-open-clause-wrong_line : goal.returns-in-Ok-open-clause-wrong_line
 returns-in-Ok-open-clause-wrong_line g c = let ran = c.run_store.ensures.ran in let opened = c.in-Ok-open.ensures in
-    λ e. ran_wrong g.K.Keeper.tables g.K.Keeper.failed (map string_bytes c.args.words.now) c.args.keeper c.run_store.result.1 c.text.result.now c.as_slice.result.now c.in-Ok-open.store (g.C.Clock.times c.args.clock.now)
-    (asked_as _ c.in-Ok.job.keyspace c.text.result.now c.in-Ok.job.collections.items c.as_slice.result.now c.text.ensures.value c.as_slice.ensures.value c.in-Ok.ensures.ok) opened.begins opened.tables opened.start opened.faults
+    λ e. ran_wrong g.K.Keeper.tables g.K.Keeper.failed (map string_bytes c.args.words.now) c.args.keeper c.run_store.result.1 c.text.result.now c.args.seed.now c.as_slice.result.now c.in-Ok-open.store (g.C.Clock.times c.args.clock.now)
+    (asked_as _ c.in-Ok.job.keyspace c.text.result.now c.in-Ok.job.collections.items c.as_slice.result.now c.text.ensures.value c.as_slice.ensures.value c.in-Ok.ensures.ok) opened.begins opened.tables opened.start opened.first opened.faults
     c.args.source.now c.run_store.new.source c.args.sink.now c.run_store.new.sink _ _ _ _ c.run_store.result.0 ran.0 ran.1 ran.3 (IsNoted (g.E.Sink.writing c.args.notes.now) (g.E.Sink.writing c.run_store.new.notes)) ran.2 e
 
 pub returns-in-Ok-open-clause-no_memory : goal.returns-in-Ok-open-clause-no_memory
 returns-in-Ok-open-clause-no_memory g c = let ran = c.run_store.ensures.ran in let opened = c.in-Ok-open.ensures in
-    λ e. ran_short g.K.Keeper.tables g.K.Keeper.failed (map string_bytes c.args.words.now) c.args.keeper c.run_store.result.1 c.text.result.now c.as_slice.result.now c.in-Ok-open.store (g.C.Clock.times c.args.clock.now)
-    (asked_as _ c.in-Ok.job.keyspace c.text.result.now c.in-Ok.job.collections.items c.as_slice.result.now c.text.ensures.value c.as_slice.ensures.value c.in-Ok.ensures.ok) opened.begins opened.tables opened.start opened.faults
+    λ e. ran_short g.K.Keeper.tables g.K.Keeper.failed (map string_bytes c.args.words.now) c.args.keeper c.run_store.result.1 c.text.result.now c.args.seed.now c.as_slice.result.now c.in-Ok-open.store (g.C.Clock.times c.args.clock.now)
+    (asked_as _ c.in-Ok.job.keyspace c.text.result.now c.in-Ok.job.collections.items c.as_slice.result.now c.text.ensures.value c.as_slice.ensures.value c.in-Ok.ensures.ok) opened.begins opened.tables opened.start opened.first opened.faults
     c.args.source.now c.run_store.new.source c.args.sink.now c.run_store.new.sink _ _ _ _ c.run_store.result.0 ran.0 ran.1 ran.3 e
 
 pub returns-in-Ok-open-clause-overfull : goal.returns-in-Ok-open-clause-overfull

@@ -3,4 +3,4 @@ use Rattle.cmd_tasks.proofs.Standing.{begun_stands}
 use Rattle.cmd_tasks.proofs.task.Task.new.Goals as goal
 
 pub returns-clause-stands : goal.returns-clause-stands
-returns-clause-stands c = λ start history. begun_stands start history _ (search rules) (search rules)
+returns-clause-stands c = λ start history. begun_stands start history _ (search rules) c.requires.targeted (search rules)
