@@ -1,16 +1,15 @@
 -- A request without a refusal asks for what the store may be asked for.
-use Rattle.std.proofs.Common.{◌≡◌, ◌<◌, ◌≤◌, ◌^◌, ℕ, true, List, Option, Some, None, ap, sym, ◌∙◌, subst, codes}
+use Rattle.std.proofs.Common.{◌≡◌, ◌≤◌, ℕ, List, Option, Some, None, ap, sym, ◌∙◌, subst, codes}
 use Rattle.std.specs.List.{AllByRecursion}
 use Rattle.std.specs.Option.{option_and_then, unwrap_or}
 use Rattle.json_tree.specs.Tree.{Tree, null}
 use Rattle.update_ops.specs.Faults.{is_object}
 use Rattle.update_ops.specs.Upsert.{IsReplacement}
 use Rattle.view_sort.specs.declared.page.PageState.{PageState}
-use Rattle.reply_env.specs.declared.reply.ErrorItem.{ErrorItem}
 use Rattle.reply_env.specs.declared.request.Place.{Place}
 use Rattle.cmd_grammar.specs.First.{first_by}
 use Rattle.cmd_grammar.specs.Commands.{IsInsertable, IsAskable, IsAskableFilter, IsAskablePage, IsAskablePaging, Paging}
-use Rattle.cmd_grammar.specs.Parts.{member_in, elements_in, filter_of, limit_of, skip_of, document_of, documents_of, replacement_of, page_text, IsPage}
+use Rattle.cmd_grammar.specs.Parts.{elements_in, filter_of, limit_of, skip_of, document_of, documents_of, replacement_of, page_text, IsPage}
 use Rattle.cmd_grammar.specs.Rows.{are_objects}
 use Rattle.cmd_grammar.specs.Documents.{document_refusal, replacing_refusal}
 use Rattle.cmd_grammar.specs.Refused.{inserted_refusal, many_inserted_refusal, replacement_refusal}
