@@ -113,7 +113,8 @@ fn judge(
     }
 }
 
-/// The command that a body asks for at a place, or the first refusal. Documents are copied out of the body.
+/// The command that a body asks for at a place, or the first refusal. Documents and replacements are copied out of the
+/// body.
 pub fn read_command(
     alloc: Global,
     place: &Place,
@@ -133,7 +134,7 @@ pub fn read_command(
     }
 }
 
-/// The same, with documents moved out of the body.
+/// The same, with documents and replacements moved out of the body.
 pub fn take_command(
     alloc: Global,
     place: &Place,

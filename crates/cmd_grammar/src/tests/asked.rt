@@ -2,7 +2,7 @@
 // of the first, a listing's limit, skip and page state, what the options choose, and what is taken out of the value.
 use super::*;
 use json_text::canon;
-use json_tree::{Doc, Value};
+use json_tree::{Doc, Items, Value};
 use shred_cols::Row;
 use view_sort::{PageState, Projection, Sort};
 
@@ -137,7 +137,12 @@ fn replaced(alloc: Global, shown: String, replacement: &Value) -> Result<String,
     Ok(format!(in alloc; "{}, {}", shown.as_str(), text.as_str())?)
 }
 
-// What a command that changes documents or collections asks for.
+fn inserted(alloc: Global, documents: Items, ordered: bool) -> Result<String, Fail> {
+    let text = value_text(alloc, &Value::List(documents))?;
+    with_flags(alloc, text, &[ordered])
+}
+
+// What a command asks for that changes documents or collections.
 fn asked_to_change(alloc: Global, command: Command) -> Result<String, Fail> {
     match command {
         Command::UpdateOne { sort, upsert, .. } => {
@@ -170,16 +175,11 @@ fn asked_to_change(alloc: Global, command: Command) -> Result<String, Fail> {
     }
 }
 
-fn asked(alloc: Global, command: Command) -> Result<String, Fail> {
+// What another command asks for.
+fn asked_to_show(alloc: Global, command: Command) -> Result<String, Fail> {
     match command {
         Command::InsertOne { document } => value_text(alloc, &document),
-        Command::InsertMany { documents, ordered } => {
-            with_flags(
-                alloc,
-                value_text(alloc, &Value::List(documents))?,
-                &[ordered],
-            )
-        }
+        Command::InsertMany { documents, ordered } => inserted(alloc, documents, ordered),
         Command::FindOne {
             sort,
             projection,
@@ -192,14 +192,37 @@ fn asked(alloc: Global, command: Command) -> Result<String, Fail> {
             skip,
             page,
             ..
-        } => { listed(alloc, shown(alloc, &sort, &projection)?, limit, skip, &page) }
+        } => {
+            let shown = shown(alloc, &sort, &projection)?;
+            listed(alloc, shown, limit, skip, &page)
+        }
         Command::DeleteOne { sort, .. } => order_of(alloc, &sort),
         Command::FindOneAndDelete {
             sort,
             projection,
             ..
         } => shown(alloc, &sort, &projection),
-        command => asked_to_change(alloc, command),
+        _ => Ok(String::new(alloc)),
+    }
+}
+
+fn changes(command: &Command) -> bool {
+    matches!(
+        command,
+        Command::UpdateOne { .. }
+            | Command::UpdateMany { .. }
+            | Command::FindOneAndUpdate { .. }
+            | Command::FindOneAndReplace { .. }
+            | Command::CreateCollection { .. }
+            | Command::DeleteCollection { .. }
+    )
+}
+
+fn asked(alloc: Global, command: Command) -> Result<String, Fail> {
+    if changes(&command) {
+        asked_to_change(alloc, command)
+    } else {
+        asked_to_show(alloc, command)
     }
 }
 
