@@ -18,7 +18,7 @@ use Rattle.cmd_grammar.specs.Asked.{command_of}
 use Rattle.cmd_grammar.specs.declared.name.Name.{Name}
 use Rattle.cmd_grammar.specs.declared.name.Name.TheVariants.{InsertOne, InsertMany, FindOne, Find, CountDocuments, UpdateOne, UpdateMany, DeleteOne, DeleteMany, FindOneAndUpdate, FindOneAndReplace, FindOneAndDelete, CreateCollection, FindCollections, DeleteCollection}
 use Rattle.cmd_grammar.proofs.Bounds.{number_small}
-use Rattle.cmd_grammar.proofs.Members.{Holds, has_document, has_documents, has_replacement}
+use Rattle.cmd_grammar.proofs.Held.{Holds, has_document, has_documents, has_replacement}
 use Rattle.cmd_grammar.proofs.Passing.{Passed, limited, untouched}
 use Rattle.cmd_grammar.proofs.Storing.{replaces, insertable, all_insertable}
 

@@ -1,5 +1,5 @@
 -- The tests of a document, joined.
-use Rattle.std.proofs.Common.{◌≡◌, List, [], ◌∷◌, Option, Some, None, refl, sym, ◌∙◌, ap, subst, codes}
+use Rattle.std.proofs.Common.{◌≡◌, ℕ, List, [], ◌∷◌, Option, Some, None, refl, sym, ◌∙◌, ap, subst, codes}
 use Rattle.std.specs.Prelude.{Result, Ok, Err, ⊤}
 use Rattle.std.specs.Option.{option_or, option_and_then}
 use Rattle.json_tree.specs.Tree.{Tree, object, members_of}
@@ -62,8 +62,8 @@ sized t o = limit_refusal (broken (under_own stand_in t o))
 pub sized_alone : (t : Tree) (r : Tested) (id : Tree) → Some id ≡ id_in t → Passes (limit_refusal (broken t)) (λ _. ⊤) r → Passes (limit_refusal (broken (under stand_in t))) (λ _. ⊤) r
 sized_alone t r id e h = subst (λ o. Passes (sized t o) (λ _. ⊤) r) e h
 
-pub sized_under : (t : Tree) (r : Tested) → None ≡ id_in t → Passes (limit_refusal (broken (with_id stand_in t))) (λ _. ⊤) r → Passes (limit_refusal (broken (under stand_in t))) (λ _. ⊤) r
-sized_under t r e h = subst (λ o. Passes (sized t o) (λ _. ⊤) r) e h
+pub sized_standing : (t : Tree) (ms : List (List ℕ × Tree)) (r : Tested) → t ≡ object (members_of ms) → None ≡ id_in t → Passes (limit_refusal (broken (with_id stand_in (object (members_of ms))))) (λ _. ⊤) r → Passes (limit_refusal (broken (under stand_in t))) (λ _. ⊤) r
+sized_standing t ms r f e h = subst (λ o. Passes (sized t o) (λ _. ⊤) r) e (subst (λ (u : Tree). Passes (limit_refusal (broken (with_id stand_in u))) (λ _. ⊤) r) (sym f) h)
 
 -- ---- in a command's value
 

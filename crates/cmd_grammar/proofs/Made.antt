@@ -21,7 +21,7 @@ use Rattle.cmd_grammar.specs.declared.fault.CommandFault.TheVariants.{Refused, N
 use Rattle.cmd_grammar.proofs.Asking.{askable}
 use Rattle.cmd_grammar.proofs.Judging.{page_is}
 use Rattle.cmd_grammar.proofs.Levels.{at_name}
-use Rattle.cmd_grammar.proofs.Members.{Holds, has_new_name, has_old_name}
+use Rattle.cmd_grammar.proofs.Held.{Holds, has_new_name, has_old_name}
 use Rattle.cmd_grammar.proofs.Passing.{Passed, passed}
 use Rattle.cmd_grammar.proofs.Placing.{placed, is_there}
 
