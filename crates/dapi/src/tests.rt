@@ -1,11 +1,21 @@
 //! The top call on streams in memory: a table of calls, each with what it writes.
 mod changes;
+mod collections;
+mod generated;
+mod ones;
 mod pages;
+mod puts;
+mod refusals;
 mod rows;
 mod searches;
 
 use self::changes::{CHANGED, CHANGES, MANY};
+use self::collections::COLLECTIONS;
+use self::generated::GENERATED;
+use self::ones::ONES;
 use self::pages::{OPTIONS, PAGES, STATES};
+use self::puts::{INSERTIONS, UPSERTS};
+use self::refusals::REFUSALS;
 use self::rows::{DELETIONS, REQUESTS, RETURNS, STREAMS, UPDATES, WORDS};
 use self::searches::{FAULTS, FIRSTS, ORDER, REFUSED, SORTABLE, SORTED, SORTS, UNSORTABLE, VIEWS};
 use crate::top::dapi;
@@ -172,6 +182,14 @@ fn first_wrong_in<'a>(alloc: Global, rows: &'a str, piece: u64) -> Result<&'a st
 #[test]
 fn searches_show_what_they_have_to(rt: HostRuntime) -> Result<(), Fail> {
     for rows in [PAGES, STATES, OPTIONS, SORTS, FIRSTS, VIEWS, FAULTS, ORDER] {
+        assert_eq!(rt; first_wrong_in(rt.alloc(), rows, 1000)?, "");
+    }
+    Ok(())
+}
+
+#[test]
+fn commands_do_what_they_have_to(rt: HostRuntime) -> Result<(), Fail> {
+    for rows in [REFUSALS, INSERTIONS, UPSERTS, ONES, COLLECTIONS, GENERATED] {
         assert_eq!(rt; first_wrong_in(rt.alloc(), rows, 1000)?, "");
     }
     Ok(())
