@@ -1,5 +1,5 @@
 -- A session that has a history to itself behind its opening, over a keeper that doesn't fail: what its sights stand on.
-use Rattle.std.proofs.Common.{◌≡◌, ◌⊎◌, ℕ, zero, suc, ◌+◌, ◌-◌, ◌^◌, ◌<◌, ◌≤◌, min, List, [], ◌∷◌, ◌++◌, map, take, drop, reverse, length, Bool, true, false, cond, not, ◌&&◌, ◌||◌, Option, Some, None, refl, sym, ap, ◌∙◌, subst, arith, inl, inr, length-append, length-take}
+use Rattle.std.proofs.Common.{◌≡◌, ℕ, zero, suc, ◌+◌, ◌-◌, ◌<◌, ◌≤◌, List, [], ◌∷◌, ◌++◌, map, take, drop, reverse, length, Bool, true, false, cond, not, ◌&&◌, ◌||◌, Some, refl, sym, ap, ◌∙◌, subst, arith, inl, inr, length-take}
 use Rattle.std.specs.Prelude.{slice_get}
 use Rattle.std.specs.List.{list_any, AllByRecursion as Each}
 use Rattle.std.proofs.lemmas.Bool.{eq-eqb}
@@ -138,7 +138,7 @@ point_behind i = each (writes i)
     each true = omega arith
     each false = omega arith
 
-points_late : (n from : ℕ) (is : List Item) → n ≤ from → AreOrdered from is → Each (λ i. n ≤ point i) is
+pub points_late : (n from : ℕ) (is : List Item) → n ≤ from → AreOrdered from is → Each (λ i. n ≤ point i) is
 points_late n from [] l o = tt
 points_late n from (i ∷ is) l o = (omega (arith, o.0), points_late n (behind i) is (let b = point_behind i in omega (arith, o.0, b)) o.1)
 

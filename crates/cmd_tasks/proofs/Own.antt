@@ -1,18 +1,21 @@
 -- Where nobody disturbs a session, the replies to its requests tell no failed call of the keeper and no write that was lost to another.
-use Rattle.std.proofs.Common.{◌≡◌, ◌⊎◌, ℕ, ◌+◌, ◌≤◌, ◌<◌, List, [], ◌∷◌, ◌++◌, drop, length, Option, Some, None, Result, Ok, Err, refl, sym, ap, ◌∙◌, subst, arith, inl, inr, length-append, Vec, Global}
-use Rattle.std.specs.Prelude.{MatchOption, slice_get, true, false}
+use Rattle.std.proofs.Common.{◌≡◌, ℕ, ◌+◌, ◌≤◌, List, [], ◌∷◌, ◌++◌, map, drop, length, Option, Some, None, Result, Ok, Err, refl, sym, ap, subst, arith, inl, inr, length-append, Vec, Global}
+use Rattle.std.specs.Prelude.{MatchOption, slice_get}
 use Rattle.std.specs.List.{AllByRecursion as Each}
+use Rattle.std.specs.Option.{option_map}
 use Rattle.json_tree.specs.Tree.{Tree}
 use Rattle.outside_io.specs.Causes.{Rose}
+use Rattle.shred_cols.specs.Row.{id_of}
 use Rattle.shred_cols.specs.Rows.{first}
 use Rattle.col_keeper.specs.Tables.{Name}
 use Rattle.filter_tree.specs.Filters.{FilterTree}
 use Rattle.update_ops.specs.declared.fault.UpdateFault.{UpdateFault}
 use Rattle.update_ops.specs.declared.fault.UpdateFault.TheVariants as update_faults
 use Rattle.view_sort.specs.Sort.{SortKeys}
+use Rattle.view_sort.specs.View.{view}
 use Rattle.view_sort.specs.declared.page.PageState.{PageState}
 use Rattle.reply_env.specs.Messages as errors
-use Rattle.reply_env.specs.Reply.{IsRefusal, IsRefusalOf, IsRefusalAfter}
+use Rattle.reply_env.specs.Reply.{IsRefusalOf, IsRefusalAfter}
 use Rattle.reply_env.specs.declared.reply.ErrorItem.{ErrorItem}
 use Rattle.reply_env.specs.declared.reply.SoFar.{SoFar}
 use Rattle.reply_env.specs.declared.reply.Reply.{Reply}
@@ -23,22 +26,21 @@ use Rattle.store_core.specs.Counts.{AllBy}
 use Rattle.store_core.specs.declared.entry.Change.{Change}
 use Rattle.store_core.specs.declared.entry.Entry.{Entry}
 use Rattle.store_core.specs.declared.entry.Entry.TheVariants.{Opened}
-use Rattle.cmd_tasks.specs.Trace.{Sight, sight, point, Found, shown}
-use Rattle.cmd_tasks.specs.Searches.{in_order}
-use Rattle.cmd_tasks.specs.Part.{keep_of}
+use Rattle.cmd_tasks.specs.Trace.{Sight, point, Found, shown}
+use Rattle.cmd_tasks.specs.Part.{keep_of, part_of, state_after}
 use Rattle.cmd_tasks.specs.Doing.{Doing, makes, deletes, change_of, upsert_of}
 use Rattle.cmd_tasks.specs.Jobs.{Job, Form, by_counts, shows, inserts, finds_one, finds, counts, changes_one, changes_many, creates, drops, names, job_of}
-use Rattle.cmd_tasks.specs.Insertions.{doubles, inserted, error_of_double, TellsIds, TellsInsertions, IsInserted, IsTaken}
-use Rattle.cmd_tasks.specs.Outcomes.{Outcome, put, changed, unchanged, none_found, ShowsChange, ShowsDeletion, TellsChange, TellsDeletion, Tells, TellsMet, TellsUnwritten, TellsUnput, TellsNone, shown_of, ready}
+use Rattle.cmd_tasks.specs.Insertions.{doubles, inserted, error_of_double, TellsIds, TellsInsertions}
+use Rattle.cmd_tasks.specs.Outcomes.{Outcome, put, changed, unchanged, none_found, ShowsChange, ShowsDeletion, TellsChange, TellsDeletion, Tells, TellsMet, TellsUnwritten, TellsUnput, TellsNone}
 use Rattle.cmd_tasks.specs.Taking.{Standing, Turn, looks_on, looks_again, attempts, inserts as puts, is_done, is_put, is_taken, is_refused, gives_up}
 use Rattle.cmd_tasks.specs.Turns.{Ends, so_far_of, done_reply}
-use Rattle.cmd_tasks.specs.Served.{TellsFound, TellsListed, TellsNames, losses, accepted, chosen, round, HasChange, put_last, IsFound, TellsWon, TellsPut, AnswersRounds, AnswersOne, many_standing, many_turn, IsMarked, IsMade, IsThere, IsOneTooMany, IsDropped, IsAbsent, IsMark, Stops, Marks, IsToWrite, errors_before, TellsBefore, IsPartOf, IsStopped, Answers, AnswersOnce, TellsStop, Serves, sights}
-use Rattle.cmd_tasks.specs.Session.{Exchange, Asking, asks_for, is_refused as is_refused_asking, is_unread, name_of, items, AreOrdered, AreCounted, AreAnswered, Answered, IsAnswered, IsSession}
+use Rattle.cmd_tasks.specs.Served.{TellsFound, TellsListed, TellsNames, losses, accepted, chosen, round, HasChange, put_last, IsFound, TellsWon, TellsPut, AnswersRounds, AnswersOne, many_standing, many_turn, IsMarked, Stops, Marks, IsToWrite, errors_before, TellsBefore, IsPartOf, IsStopped, Answers, TellsStop, Serves, sights as sights_of}
+use Rattle.cmd_tasks.specs.Session.{Exchange, Asking, asks_for, is_refused as is_refused_asking, is_unread, name_of, items, AreCounted, AreAnswered, Answered, IsSession}
 use Rattle.cmd_tasks.specs.Undisturbed.{IsOwn, TellsOwn, IsSmooth, Undisturbed, IsUndisturbed}
 use Rattle.cmd_tasks.specs.declared.trace.Item.{Item}
 use Rattle.cmd_tasks.specs.declared.trace.Item.TheVariants.{Looked, Wrote, Lost, Faulted}
 use Rattle.cmd_tasks.proofs.Calm.{IsCalm, IsNoFault, each_append, each_front, each_rest, faultless, opened_late, journal_rest, points_late, calm_sights, behind_opening}
-use Rattle.cmd_tasks.proofs.Smooth.{match_out, Calm, Smooth, no_losses, IsCalmTurn, many_calm, part_smooth, stopped_smooth}
+use Rattle.cmd_tasks.proofs.Smooth.{match_out, Calm, no_losses, IsCalmTurn, many_calm, part_smooth, stopped_smooth}
 
 -- ---- errors
 
@@ -57,7 +59,7 @@ fault_own update_faults.NoMemory = (λ e. Prim.cc e, λ e. Prim.cc e)
 
 -- ---- replies by their form
 
-own_if_refused : (reply : Reply) → ((listed : Vec ErrorItem Global) (done : Option SoFar) → reply ≡ replies.Refused listed done → Each IsOwn listed.items) → TellsOwn reply
+own_if_refused : (reply : Reply) → ((listed : Vec ErrorItem Global) (so_far : Option SoFar) → reply ≡ replies.Refused listed so_far → Each IsOwn listed.items) → TellsOwn reply
 own_if_refused (replies.Inserted ids) f = tt
 own_if_refused (replies.Found view) f = tt
 own_if_refused (replies.Listed views state) f = tt
@@ -70,18 +72,18 @@ own_if_refused (replies.FoundAndChanged view matched modified upserted) f = tt
 own_if_refused (replies.FoundAndDeleted view deleted) f = tt
 own_if_refused replies.Done f = tt
 own_if_refused (replies.Names told) f = tt
-own_if_refused (replies.Refused listed done) f = f listed done refl
+own_if_refused (replies.Refused listed so_far) f = f listed so_far refl
 own_if_refused (replies.NoMemory accepted) f = tt
 
 -- it has a form that no refusal has
-own_by : (Form : Reply → Type 0) → ((listed : Vec ErrorItem Global) (done : Option SoFar) → Form (replies.Refused listed done) → ⊥) → (reply : Reply) → Form reply → TellsOwn reply
-own_by Form none reply h = own_if_refused reply (λ listed done e. absurd (none listed done (subst Form e h)))
+own_by : (Form : Reply → Type 0) → ((listed : Vec ErrorItem Global) (so_far : Option SoFar) → Form (replies.Refused listed so_far) → ⊥) → (reply : Reply) → Form reply → TellsOwn reply
+own_by Form none reply h = own_if_refused reply (λ listed so_far e. absurd (none listed so_far (subst Form e h)))
 
 same_own : (reply other : Reply) → reply ≡ other → TellsOwn other → TellsOwn reply
 same_own reply other e own = subst TellsOwn (sym e) own
 
 refusal_own : (es : List ErrorItem) (So_far : Option SoFar → Type 0) (reply : Reply) → Each IsOwn es → IsRefusalOf es So_far reply → TellsOwn reply
-refusal_own es So_far reply own h = own_if_refused reply (λ listed done e. let is : IsRefusalOf es So_far (replies.Refused listed done) = subst (IsRefusalOf es So_far) e h in subst (Each IsOwn) (sym is.0) own)
+refusal_own es So_far reply own h = own_if_refused reply (λ listed so_far e. let is : IsRefusalOf es So_far (replies.Refused listed so_far) = subst (IsRefusalOf es So_far) e h in subst (Each IsOwn) (sym is.0) own)
 
 one_own : (error : ErrorItem) (so_far : Option SoFar) (reply : Reply) → IsOwn error → IsRefusalAfter so_far error reply → TellsOwn reply
 one_own error so_far reply own h = refusal_own (error ∷ []) (λ done. done ≡ so_far) reply (own, tt) h
@@ -93,7 +95,7 @@ double_own (Looked at after up_to shown) d = tt
 double_own (Wrote at) d = tt
 double_own (Lost at read None) d = tt
 double_own (Lost at read (Some tx)) None = tt
-double_own (Lost at read (Some tx)) (Some d) = (taken_own _ tx, tt)
+double_own (Lost at read (Some tx)) (Some d) = (taken_own (id_of d) tx, tt)
 double_own (Faulted at before count) d = tt
 
 doubles_own : (ds : List Tree) (sights : List Sight) → Each IsOwn (doubles ds sights)
@@ -101,18 +103,18 @@ doubles_own ds [] = tt
 doubles_own ds (s ∷ earlier) = each_append IsOwn (doubles ds earlier) (error_of_double s.item (slice_get ds (length earlier))) (doubles_own ds earlier) (double_own s.item (slice_get ds (length earlier)))
 
 insertions_own : (ids : List Tree) (es : List ErrorItem) (reply : Reply) → Each IsOwn es → TellsInsertions ids es reply → TellsOwn reply
-insertions_own ids [] reply own h = own_by (TellsIds ids) (λ listed done z. z) reply h
+insertions_own ids [] reply own h = own_by (TellsIds ids) (λ listed so_far z. z) reply h
 insertions_own ids (e ∷ es) reply own h = refusal_own (e ∷ es) _ reply own h
 
 -- ---- a change of one document
 
 change_own : (form : Form) (o : Outcome) (reply : Reply) → TellsChange form o reply → TellsOwn reply
 change_own by_counts o reply h = same_own reply _ h tt
-change_own (shows p after) o reply h = own_by (ShowsChange _ o) (λ listed done z. z) reply h
+change_own (shows p after) o reply h = own_by (ShowsChange _ o) (λ listed so_far z. z) reply h
 
 deletion_own : (form : Form) (o : Outcome) (reply : Reply) → TellsDeletion form o reply → TellsOwn reply
 deletion_own by_counts o reply h = same_own reply _ h tt
-deletion_own (shows p after) o reply h = own_by (ShowsDeletion _ o) (λ listed done z. z) reply h
+deletion_own (shows p after) o reply h = own_by (ShowsDeletion _ o) (λ listed so_far z. z) reply h
 
 tells_own : (doing : Doing) (form : Form) (o : Outcome) (reply : Reply) → Tells doing form o reply → TellsOwn reply
 tells_own (makes making up) form o reply h = change_own form o reply h
@@ -145,7 +147,7 @@ module _ (base : Base) (coll : Name) (k n : ℕ) where
     put_own : (d : Tree) (sights : List Sight) (reply : Reply) → TellsPut base coll k f sort doing form d sights reply → TellsOwn reply
     put_own d [] reply h = absurd h
     put_own d (s ∷ earlier) reply (inl z) = tells_own doing form (put d) reply z.1
-    put_own d (s ∷ earlier) reply (inr z) = one_own (errors.already_exists _ z.0) None reply (taken_own _ z.0) z.2
+    put_own d (s ∷ earlier) reply (inr z) = one_own (errors.already_exists (id_of d) z.0) None reply (taken_own (id_of d) z.0) z.2
 
     few : (sights : List Sight) → losses sights ≡ [] → length (losses sights) ≡ 4 → ⊥
     few sights none four = let l : length (losses sights) ≡ 0 = ap length none in omega (arith, l, four)
@@ -178,7 +180,7 @@ module _ (base : Base) (coll : Name) (k n : ℕ) where
   ends_own doing page st (puts d) reply c h = absurd h
   ends_own doing page st (is_done more) reply c h = same_own reply (done_reply doing page st more) h (done_own doing page st more)
   ends_own doing page st (is_put d) reply c h = same_own reply _ h tt
-  ends_own doing page st (is_taken d tx) reply c h = one_own (errors.already_exists _ tx) None reply (taken_own _ tx) h
+  ends_own doing page st (is_taken d tx) reply c h = one_own (errors.already_exists (id_of d) tx) None reply (taken_own (id_of d) tx) h
   ends_own doing page st (is_refused fault) reply c h = one_own (update_error fault) (so_far_of doing st) reply (fault_own fault) h
   ends_own doing page st gives_up reply c h = absurd c
 
@@ -195,14 +197,18 @@ module _ (base : Base) (coll : Name) (k n : ℕ) where
 
   names_own : (sights : List Sight) (reply : Reply) → Answers base coll k names sights reply → TellsOwn reply
   names_own [] reply h = absurd h
-  names_own (s ∷ earlier) reply h = own_by (TellsNames _) (λ listed done z. z) reply h.1
+  names_own (s ∷ earlier) reply h = own_by (TellsNames _) (λ listed so_far z. z) reply h.1
 
   -- ---- all jobs
 
   answers_own : (job : Job) (sights : List Sight) (reply : Reply) → Calm base coll k n sights → IsPartOf base coll k job sights → Answers base coll k job sights reply → TellsOwn reply
   answers_own (inserts ds ordered) sights reply all part h = insertions_own (inserted ds sights) (doubles ds sights) reply (doubles_own ds sights) h.1
-  answers_own (finds_one f sort shows) sights reply all part h = found_own f sort 1 sights _ reply (λ xs t. own_by (TellsFound _) (λ listed done z. z) reply t) h
-  answers_own (finds f sort shows p) sights reply all part h = found_own f sort (keep_of p) sights _ reply (λ xs t. own_by (TellsListed _ _) (λ listed done z. z) reply t) h
+  answers_own (finds_one f sort p) sights reply all part h =
+      found_own f sort 1 sights (λ xs. TellsFound (option_map (λ x. view p x.doc) (first xs)) reply) reply
+      (λ xs t. own_by (TellsFound (option_map (λ x. view p x.doc) (first xs))) (λ listed so_far z. z) reply t) h
+  answers_own (finds f sort look p) sights reply all part h =
+      found_own f sort (keep_of p) sights (λ xs. TellsListed (map (λ x. view look x.doc) (part_of p xs)) (state_after sort p (part_of p xs)) reply) reply
+      (λ xs t. own_by (TellsListed (map (λ x. view look x.doc) (part_of p xs)) (state_after sort p (part_of p xs))) (λ listed so_far z. z) reply t) h
   answers_own (counts f) sights reply all part h = same_own reply _ h.1 tt
   answers_own (changes_one f sort doing form) sights reply all part h = answers_one_own f sort doing form sights reply all part h
   answers_own (changes_many f doing page) sights reply all part h = ends_own doing page (many_standing base coll k f doing page sights) (many_turn base coll k f doing page sights) reply (many_calm base coll k n f doing page sights all part) h
@@ -210,10 +216,10 @@ module _ (base : Base) (coll : Name) (k n : ℕ) where
   answers_own drops sights reply all part h = drops_own sights reply h
   answers_own names sights reply all part h = names_own sights reply h
 
-  before_own : (job : Job) (sights : List Sight) → Each IsOwn (errors_before job sights)
+  before_own : (job : Job) (sights : List Sight) → Each IsOwn (errors_before base coll k job sights)
   before_own (inserts ds ordered) sights = doubles_own ds sights
-  before_own (finds_one f sort shows) sights = tt
-  before_own (finds f sort shows p) sights = tt
+  before_own (finds_one f sort p) sights = tt
+  before_own (finds f sort look p) sights = tt
   before_own (counts f) sights = tt
   before_own (changes_one f sort doing form) sights = tt
   before_own (changes_many f doing page) sights = tt
@@ -235,7 +241,7 @@ module _ (base : Base) (coll : Name) (k n : ℕ) where
   stopped_own job [] error reply all h t = absurd h
   stopped_own job (s ∷ earlier) error reply all h t =
       let own = stop_own (Marks base coll k job earlier) (IsToWrite base coll k job earlier) s error s.item all.0 h.2 in
-      refusal_own (errors_before job earlier ++ error ∷ []) (TellsBefore base coll k job earlier) reply (each_append IsOwn (errors_before job earlier) (error ∷ []) (before_own job earlier) (own, tt)) t
+      refusal_own (errors_before base coll k job earlier ++ error ∷ []) (TellsBefore base coll k job earlier) reply (each_append IsOwn (errors_before base coll k job earlier) (error ∷ []) (before_own job earlier) (own, tt)) t
 
   pub serves_calm : (job : Job) (sights : List Sight) (reply : Reply) → Calm base coll k n sights → Serves base coll k job sights reply → Each (IsSmooth base coll k) sights × TellsOwn reply
   serves_calm job sights reply all (inl z) = (part_smooth base coll k n job sights all z.0, answers_own job sights reply all z.0 z.1)
@@ -247,7 +253,7 @@ module _ (base : Base) (coll : Name) (k n : ℕ) where
 
 module _ (base : Base) (H : List Entry) (k n : ℕ) (enough : n ≤ length H) (by : AllBy k (drop n H)) (none : Each IsNoFault (drop n H)) where
   exchange_calm : (x : Exchange) → Each (λ i. n ≤ point i) x.trace → (asking : Asking) → Answered base H k x.moment x.ids asking x.trace x.reply → Undisturbed base H k asking x.trace x.reply
-  exchange_calm x late (asks_for coll c) h = serves_calm base (name_of coll) k n (job_of x.moment x.ids c) (sights H x.trace) x.reply (calm_sights H k n enough by none x.trace late) h
+  exchange_calm x late (asks_for coll c) h = serves_calm base (name_of coll) k n (job_of x.moment x.ids c) (sights_of H x.trace) x.reply (calm_sights H k n enough by none x.trace late) h
   exchange_calm x late (is_refused_asking error) h = tt
   exchange_calm x late is_unread h = tt
 

@@ -1,5 +1,5 @@
 -- Whatever a request does next goes smoothly where nobody disturbs its session.
-use Rattle.std.proofs.Common.{◌≡◌, ◌⊎◌, ℕ, ◌<◌, ◌≤◌, List, [], ◌∷◌, ◌++◌, map, length, Bool, true, false, Option, Some, None, Result, Ok, Err, refl, sym, ap, ◌∙◌, subst, inl, inr}
+use Rattle.std.proofs.Common.{◌≡◌, ◌⊎◌, ℕ, ◌≤◌, List, [], ◌∷◌, ◌++◌, length, Bool, true, false, Option, Some, None, Result, Ok, Err, refl, sym, ap, ◌∙◌, subst, inl, inr}
 use Rattle.std.specs.Prelude.{MatchOption, nat_lt, ◌&&◌, if◌then◌else◌}
 use Rattle.std.specs.List.{AllByRecursion as Each}
 use Rattle.json_tree.specs.Tree.{Tree}
@@ -10,11 +10,10 @@ use Rattle.update_ops.specs.declared.fault.UpdateFault.{UpdateFault}
 use Rattle.view_sort.specs.Sort.{SortKeys}
 use Rattle.view_sort.specs.declared.page.PageState.{PageState}
 use Rattle.reply_env.specs.declared.reply.ErrorItem.{ErrorItem}
-use Rattle.reply_env.specs.declared.update_errors.Loss.{Loss}
 use Rattle.store_core.specs.State.{State as Base}
 use Rattle.store_core.specs.declared.entry.Change.{Change}
 use Rattle.cmd_tasks.specs.Trace.{Sight, Found, next_from, rows_now, shown_by, Looks, IsLook}
-use Rattle.cmd_tasks.specs.Attempts.{IsOneOf, IsWon, IsLost, IsAttempt}
+use Rattle.cmd_tasks.specs.Attempts.{IsWon, IsLost, IsAttempt}
 use Rattle.cmd_tasks.specs.Doing.{Doing, change_of}
 use Rattle.cmd_tasks.specs.Jobs.{Job, Form, inserts, finds_one, finds, counts, changes_one, changes_many, creates, drops, names}
 use Rattle.cmd_tasks.specs.Insertions.{IsInsertion, next_document}
@@ -33,13 +32,13 @@ match_out (Some a) P Q R none some h = some a refl h
 -- the looks of the present round are among all sights
 round_each : (P : Sight → Type 0) (sights : List Sight) → Each P sights → Each P (round sights)
 round_each P [] h = tt
-round_each P (s ∷ earlier) h = by_item s.item
+round_each P (s ∷ earlier) h = by_item s.item (round_each P earlier h.1)
   where
-    by_item : (i : Item) → Each P (round_with i s (round earlier))
-    by_item (Looked at after up_to shown) = (h.0, round_each P earlier h.1)
-    by_item (Wrote at) = tt
-    by_item (Lost at read found) = tt
-    by_item (Faulted at before count) = tt
+    by_item : (i : Item) → Each P (round earlier) → Each P (round_with i s (round earlier))
+    by_item (Looked at after up_to shown) r = (h.0, r)
+    by_item (Wrote at) r = tt
+    by_item (Lost at read found) r = tt
+    by_item (Faulted at before count) r = tt
 
 module _ (base : Base) (coll : Name) (k n : ℕ) where
   abbrev pub Calm : List Sight → Type 0
@@ -96,7 +95,7 @@ module _ (base : Base) (coll : Name) (k n : ℕ) where
   module _ (f : FilterTree) (sort : SortKeys) (doing : Doing) where
     -- one of the round's looks showed the document, and the attempt was won
     attempt_smooth : (sights : List Sight) (s : Sight) (x : Found) → Calm sights → IsCalm k n s → HasChange base coll k f sort doing x (λ change. IsAttempt base coll k f change (round sights) x s) → Smooth s
-    attempt_smooth sights s x all calm (change, is, look, among, shown, made) =
+    attempt_smooth sights s x all calm (change, is, (look, among, shown, made)) =
         let seen : IsCalm k n look = each_at (IsCalm k n) look (round sights) (round_each (IsCalm k n) sights all) among in
         change_smooth look x change s calm seen.enough made
 
@@ -121,8 +120,8 @@ module _ (base : Base) (coll : Name) (k n : ℕ) where
     looks_lose r from (Faulted at before count) h = absurd h
 
     attempt_loses : (sights : List Sight) (s : Sight) (x : Found) → Calm sights → IsCalm k n s → HasChange base coll k f sort doing x (λ change. IsAttempt base coll k f change (round sights) x s) → lost_by s.item ≡ []
-    attempt_loses sights s x all calm (change, is, look, among, shown, inl won) = ap lost_by won.wrote.0
-    attempt_loses sights s x all calm (change, is, look, among, shown, inr lost) =
+    attempt_loses sights s x all calm (change, is, (look, among, shown, inl won)) = ap lost_by won.wrote.0
+    attempt_loses sights s x all calm (change, is, (look, among, shown, inr lost)) =
         let seen : IsCalm k n look = each_at (IsCalm k n) look (round sights) (round_each (IsCalm k n) sights all) among in
         absurd (lost_none base coll k n look x s calm seen.enough lost)
 
@@ -233,11 +232,11 @@ module _ (base : Base) (coll : Name) (k n : ℕ) where
 
     settled_fresh : (qs : List Shown) (st : Standing) → st.again ≡ false → Each (λ q. n ≤ length q.look.past) qs → IsFresh (settled doing qs st)
     settled_fresh [] st a h = record { again = a; queue = tt }
-    settled_fresh (q ∷ rest) st a h = by_test (nat_lt st.matched 20 && is_unchanged (change_of doing q.x.doc))
+    settled_fresh (q ∷ rest) st a h = by_test (nat_lt st.matched 20 && is_unchanged (change_of doing q.x.doc)) (settled_fresh rest (count q.x 0 rest st) a h.1)
       where
-        by_test : (b : Bool) → IsFresh (if b then settled doing rest (count q.x 0 rest st) else record st { queue = q ∷ rest })
-        by_test true = settled_fresh rest (count q.x 0 rest st) a h.1
-        by_test false = record { again = a; queue = h }
+        by_test : (b : Bool) → IsFresh (settled doing rest (count q.x 0 rest st)) → IsFresh (if b then settled doing rest (count q.x 0 rest st) else record st { queue = q ∷ rest })
+        by_test true r = r
+        by_test false r = record { again = a; queue = h }
 
     shown_each : (look : Sight) (xs : List Found) → n ≤ length look.past → Each (λ q. n ≤ length q.look.past) (shown_with look xs)
     shown_each look [] l = tt

@@ -22,7 +22,7 @@ IsOwn error = (error.code ≢ StoreFault) × (error.code ≢ ConcurrencyFailure)
 
 -- nor does any error of the reply
 abbrev pub TellsOwn : Reply → Type 0
-TellsOwn (Refused errors done) = Each IsOwn errors.items
+TellsOwn (Refused errors so_far) = Each IsOwn errors.items
 TellsOwn reply = ⊤
 
 module _ (base : State) (coll : Name) (k : ℕ) where
