@@ -74,16 +74,16 @@ module _ {K : Type 0} (tables : K → Option Tables) (failed : K → ℕ) (words
     run_complete keyspace seed store times how status A B C is (inl e) = ends_complete _ how status is e.ended
     run_complete keyspace seed store times how status A B C is (inr none) = inr (is ∙ ap status_of none.0)
 
-    -- a store that wasn't opened
-    pub unopened_complete : (keyspace : List ℕ) (collections : List (List ℕ)) (status : ℕ) → RunsOn words keyspace collections
-        → (fault : OpenFault K) → status ≡ open_status fault → kept ≡ keeper_in fault → Refuses tables failed collections given fault → (status ≡ 0) ⊎ (status ≡ 9)
-    unopened_complete keyspace collections status asked (opens.KeeperFault keeper b a) is back refuses =
-        absurd (u.keeper (subst (λ (k : K). Rose (failed given) (failed k)) (sym back) (subst (λ (n : ℕ). Rose (failed given) n) refuses.1 (subst (λ (n : ℕ). Rose n a) refuses.0 refuses.2))))
-    unopened_complete keyspace collections status asked (opens.TooMany keeper) is back refuses =
-        let over = refuses u.start u.told in
-        let few : would_live collections u.start ≤ 100 = subst (λ (ns : List (List ℕ)). would_live ns u.start ≤ 100) (same_collections words u.keyspace keyspace u.collections collections u.asked asked) u.few in
-        absurd (omega (arith, few, over.0))
-    unopened_complete keyspace collections status asked (opens.NoMemory keeper) is back refuses = inr is
+  -- where the store wasn't opened
+  pub unopened_complete : IsUnhindered tables failed words given kept from to before after → (keyspace : List ℕ) (collections : List (List ℕ)) (status : ℕ) → RunsOn words keyspace collections
+      → (fault : OpenFault K) → status ≡ open_status fault → kept ≡ keeper_in fault → Refuses tables failed collections given fault → (status ≡ 0) ⊎ (status ≡ 9)
+  unopened_complete u keyspace collections status asked (opens.KeeperFault keeper b a) is back refuses =
+      absurd (u.keeper (subst (λ (k : K). Rose (failed given) (failed k)) (sym back) (subst (λ (n : ℕ). Rose (failed given) n) refuses.1 (subst (λ (n : ℕ). Rose n a) refuses.0 refuses.2))))
+  unopened_complete u keyspace collections status asked (opens.TooMany keeper) is back refuses =
+      let over = refuses u.start u.told in
+      let few : would_live collections u.start ≤ 100 = subst (λ (ns : List (List ℕ)). would_live ns u.start ≤ 100) (same_collections words u.keyspace keyspace u.collections collections u.asked asked) u.few in
+      absurd (omega (arith, few, over.0))
+  unopened_complete u keyspace collections status asked (opens.NoMemory keeper) is back refuses = inr is
 
   -- ---- where no call of the keeper failed
 

@@ -1,4 +1,4 @@
 pub mod Notes
 pub mod Choosing
 pub mod Ending
-mod Completing
+pub mod Completing

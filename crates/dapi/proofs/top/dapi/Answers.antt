@@ -75,7 +75,7 @@ returns-clause-unopened g c = λ four.
 
 pub returns-clause-complete : goal.returns-clause-complete
 returns-clause-complete g c = λ u.
-    unopened_complete g.K.Keeper.tables g.K.Keeper.failed (map string_bytes c.args.words.now) c.args.keeper c.refuse_store.result.1 _ _ _ _ _ u c.in-Ok.job.keyspace c.as_slice.result.now c.refuse_store.result.0
+    unopened_complete g.K.Keeper.tables g.K.Keeper.failed (map string_bytes c.args.words.now) c.args.keeper c.refuse_store.result.1 _ _ _ _ u c.in-Ok.job.keyspace c.as_slice.result.now c.refuse_store.result.0
     (asked_as _ c.in-Ok.job.keyspace c.in-Ok.job.keyspace c.in-Ok.job.collections.items c.as_slice.result.now refl c.as_slice.ensures.value c.in-Ok.ensures.ok)
     c.in-Err-open.fault c.refuse_store.ensures.status c.refuse_store.ensures.kept c.in-Err-open.ensures.refused
 
