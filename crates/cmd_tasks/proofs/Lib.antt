@@ -56,3 +56,6 @@ mod Pagings
 mod Trials
 mod Retrials
 mod Fewness
+mod Calm
+mod Smooth
+mod Own

@@ -11,6 +11,7 @@ pub mod Taking
 pub mod Turns
 pub mod Served
 pub mod Session
+pub mod Undisturbed
 pub mod Placed
 pub mod Pages
 pub mod Rank

@@ -3,6 +3,7 @@ ghost use Rattle.std.specs.Prelude.{◌≡◌, ◌≢◌, ◌≤◌, ◌+◌, �
 ghost use Rattle.std.specs.List.{AllByRecursion as Each};
 ghost use Rattle.std.specs.Option.{ForSome};
 ghost use Rattle.json_tree.specs.Tree.{Tree};
+ghost use Rattle.outside_io.specs.Causes.{Rose};
 ghost use Rattle.shred_cols.specs.Rows.{ascends};
 ghost use Rattle.col_keeper.specs.Tables.{Name};
 ghost use Rattle.reply_env.specs.declared.reply.Reply.{Reply as Answer};
@@ -17,7 +18,8 @@ ghost use Rattle.update_ops.specs.Clauses.{Clause};
 ghost use Rattle.view_sort.specs.declared.page.PageState.{PageState};
 ghost use Rattle.cmd_grammar.specs.Commands.{CommandTree, Shows, command_tree, update_many, delete_many};
 ghost use Rattle.cmd_tasks.specs.Served.{IsServed, sights};
-ghost use Rattle.cmd_tasks.specs.Session.{Exchange, IsSession, IsAnswered, AreSessions, AreWithin, NoWork, Records};
+ghost use Rattle.cmd_tasks.specs.Session.{Exchange, IsSession, IsAnswered, AreCounted, AreSessions, AreWithin, NoWork, Records};
+ghost use Rattle.cmd_tasks.specs.Undisturbed.{IsUndisturbed};
 ghost use Rattle.cmd_tasks.specs.Joined.{Page, IdsAreTold, ArePages, ShowEachOnce};
 ghost use Rattle.cmd_tasks.specs.Doing.{makes, updates, deletes};
 ghost use Rattle.cmd_tasks.specs.Jobs.{upsert_id};
@@ -104,4 +106,12 @@ pub fn each_match_is_counted()
         → AreTaken base coll k f (makes (updates u moment) (upsert_id upsert ids)) page (sights history trace) reply }
     ensures deleted { (base : Base) (history : List Journaled) (coll : Name) (k : ℕ) (moment : ℤ) (ids : List Tree) (f : FilterTree) (trace : List Seen) (reply : Answer)
         → Each (λ c. ascends c.rows ≡ true) base.collections → IsServed base history coll k moment ids (delete_many f) trace reply → AreTaken base coll k f deletes None (sights history trace) reply }
+{}
+
+/// Nobody disturbs a session's requests where all entries behind its opening are by it, and the keeper's count of faults doesn't
+/// rise: no call of the keeper fails under them, no write of theirs is lost to another session, and no reply tells of either. A
+/// write of theirs that isn't accepted is the insertion of a document whose id is there.
+pub fn a_session_alone_is_undisturbed()
+    ensures { (base : Base) (before more : List Journaled) (k low high : ℕ) (exchanges : List Exchange) → AllBy k more → AreCounted low high more → (Rose low high → ⊥)
+        → IsSession base (before ++ Opened k ∷ more) k exchanges → Each (IsUndisturbed base (before ++ Opened k ∷ more) k) exchanges }
 {}

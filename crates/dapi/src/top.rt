@@ -9,12 +9,14 @@ ghost use Rattle.store_core.specs.Journal.{replay};
 ghost use Rattle.api_serve.specs.Run.{ServesInput, ServesWholeLines, ServesBefore, ServesCut, ServesFirst, HasRead};
 ghost use Rattle.dapi.specs.Words.{RunsOn, IsUsage};
 ghost use Rattle.dapi.specs.Top.{Runs, FailsOpening, IsOverfull, ServesNone};
+ghost use Rattle.dapi.specs.Complete.{IsUnhindered, RunsUndisturbed};
 ghost use Rattle.dapi.specs.Note.{IsNoted, line_note, note_at, is_status, status_of, note_of, word_status, word_note, open_status, open_note};
 ghost use Rattle.dapi.specs.Ended.{EndsStore};
 
 use crate::note::{note_of, status_of, word_note, word_status, write_note};
 use crate::words::{WordFault, read};
-use api_serve::{RunEnd, RunHow, run_lines};
+use api_serve::{RunEnd, RunHow, an_input_has_one_list_of_lines, run_lines};
+use cmd_tasks::a_session_alone_is_undisturbed;
 use col_keeper::Keeper;
 use outside_io::{Clock, Sink, Source};
 use std::alloc::Global;
@@ -98,6 +100,14 @@ pub fn dapi<S: Source, W: Sink, E: Sink, K: Keeper, C: Clock>(
     ensures answered { result.0 ≡ 0 → Runs K.tables K.failed (map string_bytes words.now) keeper result.1 seed.now (C.times clock.old)
         (λ Served. ServesInput Served (S.reading source.old) (S.reading source.new) (W.writing sink.old) (W.writing sink.new)) }
 
+    // Where no call of the keeper failed, nobody disturbed a request: no call failed under it, no write of it was lost to another.
+    ensures undisturbed { result.0 ≡ 0 → (Rose (K.failed keeper) (K.failed result.1) → ⊥) → RunsUndisturbed K.tables K.failed (map string_bytes words.now) keeper result.1
+        (S.reading source.old) (S.reading source.new) (W.writing sink.old) (W.writing sink.new) seed.now (C.times clock.old) }
+
+    // Where nothing stands in the way, all is read and written, or memory ran out.
+    ensures complete { IsUnhindered K.tables K.failed (map string_bytes words.now) keeper result.1 (S.reading source.old) (S.reading source.new) (W.writing sink.old) (W.writing sink.new)
+        → (result.0 ≡ 0) ⊎ (result.0 ≡ 9) }
+
     // The words are no command's; nothing was read, written or kept.
     ensures usage { result.0 ≡ 1 → IsUsage (map string_bytes words.now) }
     ensures used { IsUsage (map string_bytes words.now) → (result.0 ≡ 1) ⊎ (result.0 ≡ 9) }
@@ -146,16 +156,20 @@ pub fn dapi<S: Source, W: Sink, E: Sink, K: Keeper, C: Clock>(
         Err(fault) => return (refuse_words(notes, fault), keeper),
     };
     match Store::open(alloc, keeper, job.collections.as_slice()) {
-        Ok(store) => run_store(
-            alloc,
-            job.keyspace.text(),
-            source,
-            sink,
-            notes,
-            store,
-            clock,
-            seed,
-        ),
+        Ok(store) => {
+            an_input_has_one_list_of_lines();
+            a_session_alone_is_undisturbed();
+            run_store(
+                alloc,
+                job.keyspace.text(),
+                source,
+                sink,
+                notes,
+                store,
+                clock,
+                seed,
+            )
+        }
         Err(fault) => refuse_store(notes, fault),
     }
 }

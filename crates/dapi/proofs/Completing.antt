@@ -1,0 +1,100 @@
+-- Where nothing stands in a run's way it ends whole, want of memory apart; and where no call of its keeper failed, nobody disturbed its requests.
+use Rattle.std.proofs.Common.{◌≡◌, ◌≤◌, ◌<◌, ◌+◌, ◌^◌, ◌⊎◌, ◌++◌, ◌∷◌, [], ℕ, ℤ, List, Bool, true, false, Option, Some, None, length, sym, ◌∙◌, ap, subst, arith, inl, inr, length-append}
+use Rattle.std.specs.List.{AllByRecursion as Each}
+use Rattle.outside_io.specs.Causes.{Rose, Rose-earlier}
+use Rattle.outside_io.specs.Told.{Reading, Writing, then_left, IsHindered}
+use Rattle.col_keeper.specs.Tables.{Tables}
+use Rattle.store_core.specs.State.{State}
+use Rattle.store_core.specs.Store.{Stored}
+use Rattle.store_core.specs.Counts.{AllBy}
+use Rattle.store_core.specs.Opening.{would_live, keeper_in, Refuses}
+use Rattle.store_core.specs.declared.entry.Entry.{Entry}
+use Rattle.store_core.specs.declared.entry.Entry.TheVariants.{Opened}
+use Rattle.store_core.specs.declared.open.OpenFault.{OpenFault}
+use Rattle.store_core.specs.declared.open.OpenFault.TheVariants as opens
+use Rattle.cmd_tasks.specs.Session.{Exchange, IsSession, AreCounted}
+use Rattle.cmd_tasks.specs.Undisturbed.{IsUndisturbed}
+use Rattle.api_serve.specs.Lines.{HasLines}
+use Rattle.api_serve.specs.Request.{IsRightLine, AreRightLines}
+use Rattle.api_serve.specs.Run.{ServesInput, ServesWholeLines, ServesBefore}
+use Rattle.api_serve.specs.Ends.{IsWriteFault, EndsRun}
+use Rattle.api_serve.specs.declared.run.RunHow.{RunHow}
+use Rattle.api_serve.specs.declared.run.RunHow.TheVariants.{Done, ReadFault, WriteFault, TooLong, WrongLine, NoMemory}
+use Rattle.dapi.specs.Words.{RunsOn}
+use Rattle.dapi.specs.Note.{status_of, open_status}
+use Rattle.dapi.specs.Ended.{EndsStore}
+use Rattle.dapi.specs.Top.{Runs}
+use Rattle.dapi.specs.Complete.{IsUnhindered, RunsUndisturbed}
+use Rattle.dapi.proofs.Choosing.{same_collections}
+
+-- laws of the crates below
+abbrev pub LinesAreOne : Type 0
+LinesAreOne = (input : List ℕ) (lines others : List (List ℕ)) → HasLines input lines → HasLines input others → lines ≡ others
+
+abbrev pub AloneIsUndisturbed : Type 0
+AloneIsUndisturbed = (base : State) (before more : List Entry) (k low high : ℕ) (exchanges : List Exchange) → AllBy k more → AreCounted low high more → (Rose low high → ⊥)
+    → IsSession base (before ++ Opened k ∷ more) k exchanges → Each (IsUndisturbed base (before ++ Opened k ∷ more) k) exchanges
+
+-- what was read is no longer than what was there
+read_fits : (whole input : List ℕ) (left : Option (List ℕ)) → Some whole ≡ then_left input left → length input ≤ length whole
+read_fits whole input None e = cc
+read_fits whole input (Some rest) e = let is : whole ≡ input ++ rest = cc in let l = ap length is in omega (arith, l, length-append input rest)
+
+right_there : (lines : List (List ℕ)) (line : List ℕ) (behind : List (List ℕ)) → AreRightLines (lines ++ line ∷ behind) → IsRightLine line
+right_there [] line behind h = h.0
+right_there (l ∷ lines) line behind h = right_there lines line behind h.1
+
+hindered_so : (before after : Writing) (b a : ℕ) (nothing : Bool) → IsWriteFault before after b a nothing → IsHindered before after
+hindered_so before after b a false h = inl (Rose-earlier before.failed b after.failed h.0 (subst (Rose b) h.2 h.1))
+hindered_so before after b a true h = inr h.1
+
+module _ {K : Type 0} (tables : K → Option Tables) (failed : K → ℕ) (words : List (List ℕ)) (given kept : K) (from to : Reading) (before after : Writing) where
+  -- ---- where nothing stands in the way
+
+  module _ (one : LinesAreOne) (u : IsUnhindered tables failed words given kept from to before after) where
+    never_long : (P : List (List ℕ) → List ℕ → Type 0) → ServesWholeLines P from to before after (2 ^ 40) → ⊥
+    never_long P h = let l = read_fits u.input h.input to.left (sym u.bytes ∙ h.read) in omega (arith, l, h.size, u.size)
+
+    never_wrong : (P : List (List ℕ) → List ℕ → Type 0) (line : ℕ) → ServesBefore P from to before after line → ⊥
+    never_wrong P line h =
+        let w = h.wrong u.input u.bytes in
+        let same : u.lines ≡ h.lines ++ w.line ∷ w.after = one u.input u.lines (h.lines ++ w.line ∷ w.after) u.has_lines w.has_lines in
+        w.wrong (right_there h.lines w.line w.after (subst AreRightLines same u.right))
+
+    ends_complete : (P : List (List ℕ) → List ℕ → Type 0) (how : RunHow) (status : ℕ) → status ≡ status_of how → EndsRun P from to before after how → (status ≡ 0) ⊎ (status ≡ 9)
+    ends_complete P Done status is h = inl is
+    ends_complete P (ReadFault b a) status is h = absurd (u.source (Rose-earlier from.failed b to.failed h.0.0 (subst (Rose b) h.0.2 h.0.1)))
+    ends_complete P (WriteFault b a nothing) status is h = absurd (u.sink (hindered_so before after b a nothing h.0))
+    ends_complete P TooLong status is h = absurd (never_long P h)
+    ends_complete P (WrongLine line) status is h = absurd (never_wrong P line h)
+    ends_complete P NoMemory status is h = inr is
+
+    pub run_complete : (keyspace seed : List ℕ) (store : Stored K) (times : Option (List ℤ)) (how : RunHow) (status : ℕ) (A B C : Type 0) → status ≡ status_of how
+        → EndsStore tables failed keyspace seed store times kept from to before after how ⊎ ((how ≡ NoMemory) × A × B × C) → (status ≡ 0) ⊎ (status ≡ 9)
+    run_complete keyspace seed store times how status A B C is (inl e) = ends_complete _ how status is e.ended
+    run_complete keyspace seed store times how status A B C is (inr none) = inr (is ∙ ap status_of none.0)
+
+  -- where the store wasn't opened
+  pub unopened_complete : IsUnhindered tables failed words given kept from to before after → (keyspace : List ℕ) (collections : List (List ℕ)) (status : ℕ) → RunsOn words keyspace collections
+      → (fault : OpenFault K) → status ≡ open_status fault → kept ≡ keeper_in fault → Refuses tables failed collections given fault → (status ≡ 0) ⊎ (status ≡ 9)
+  unopened_complete u keyspace collections status asked (opens.KeeperFault keeper b a) is back refuses =
+      absurd (u.keeper (subst (λ (k : K). Rose (failed given) (failed k)) (sym back) (subst (λ (n : ℕ). Rose (failed given) n) refuses.1 (subst (λ (n : ℕ). Rose n a) refuses.0 refuses.2))))
+  unopened_complete u keyspace collections status asked (opens.TooMany keeper) is back refuses =
+      let over = refuses u.start u.told in
+      let few : would_live collections u.start ≤ 100 = subst (λ (ns : List (List ℕ)). would_live ns u.start ≤ 100) (same_collections words u.keyspace keyspace u.collections collections u.asked asked) u.few in
+      absurd (omega (arith, few, over.0))
+  unopened_complete u keyspace collections status asked (opens.NoMemory keeper) is back refuses = inr is
+
+  -- ---- where no call of the keeper failed
+
+  pub run_undisturbed : AloneIsUndisturbed → (seed : List ℕ) (times : Option (List ℤ)) → Runs tables failed words given kept seed times (λ Served. ServesInput Served from to before after) → (Rose (failed given) (failed kept) → ⊥)
+      → RunsUndisturbed tables failed words given kept from to before after seed times
+  run_undisturbed law seed times run still = record {
+    run = run;
+    undisturbed = λ base told.
+        let s = run.ended.served in
+        let journal : run.history ≡ Opened s.number ∷ s.more = s.journal in
+        subst (λ (H : List Entry). Each (IsUndisturbed base H s.number) s.exchanges) (sym journal)
+        (law base [] s.more s.number run.count (failed kept) s.exchanges s.alone s.counted (λ rose. still (Rose-earlier (failed given) run.count (failed kept) run.counts rose))
+        (subst (λ (H : List Entry). IsSession base H s.number s.exchanges) journal (s.session base told)));
+  }
