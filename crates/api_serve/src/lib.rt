@@ -10,3 +10,6 @@ mod serve;
 
 pub use run::RunHow;
 pub use serve::{RunEnd, run_lines};
+
+#[cfg(test)]
+mod tests;
