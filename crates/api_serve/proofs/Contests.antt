@@ -1,7 +1,5 @@
 -- A task that steps while another session writes, in a test.
-use Rattle.std.proofs.Common.{◌≡◌, ◌≢◌, ℕ, ◌<◌, ◌≤◌, List, [], ◌∷◌, ◌++◌, length, Option, Some, refl, sym, ◌∙◌, subst, arith}
-use Rattle.std.specs.Bool.{false}
-use Rattle.std.proofs.lemmas.Bool.{ne_eqb}
+use Rattle.std.proofs.Common.{◌≡◌, ◌≢◌, ℕ, ◌<◌, ◌≤◌, List, [], ◌∷◌, ◌++◌, length, false, Option, Some, refl, sym, ◌∙◌, subst, arith, ne_eqb}
 use Rattle.store_core.specs.State.{State as Base}
 use Rattle.store_core.specs.Counts.{AllBy, by_of, opened_in}
 use Rattle.store_core.specs.declared.entry.Entry.{Entry}
