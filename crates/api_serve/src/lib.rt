@@ -12,3 +12,6 @@ mod serve;
 pub use laws::an_input_has_one_list_of_lines;
 pub use run::RunHow;
 pub use serve::{RunEnd, run_lines};
+
+#[cfg(test)]
+mod tests;

@@ -34,7 +34,6 @@ mod Replies
 pub mod Rounds
 pub mod Tries
 mod Placings
-pub mod Contests
 mod Ascent
 mod Covering
 mod Client

@@ -19,8 +19,6 @@ mod search;
 mod steps;
 mod taking;
 mod task;
-#[cfg(test)]
-mod tests;
 mod trace;
 mod upserts;
 mod work;

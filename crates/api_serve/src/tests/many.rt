@@ -6,9 +6,9 @@ ghost use Rattle.store_core.specs.declared.entry.Entry.{Entry as Journaled};
 ghost use Rattle.cmd_grammar.specs.Commands.{command_tree, IsAskable};
 ghost use Rattle.cmd_tasks.specs.Stands.{StandsOn};
 
-use super::{command_of, items_of, opened, run, text_of, told};
-use crate::task::{Next, Served, Task};
+use super::{command_of, items_of, opened, run, task_of, text_of, told};
 use cmd_grammar::Command;
+use cmd_tasks::{Next, Served, Task, others_may_append};
 use doc_paths::CollName;
 use keeper_mem::MemKeeper;
 use std::alloc::Global;
@@ -430,6 +430,7 @@ fn stepped(
     requires apart { task.session ≢ other }
     requires stands { StandsOn store.old.start store.old.journal task }
 {
+    others_may_append();
     let mut task = task;
     'steps: for step in 0..40 {
         match task.step(alloc, store) {
@@ -455,7 +456,7 @@ fn tried(
     requires apart { session ≢ other }
     requires asked { IsAskable (command_tree command) }
 {
-    let task = Task::new(alloc, session, coll, 0, command);
+    let task = task_of(alloc, session, coll, command);
     stepped(alloc, store, task, other, others)
 }
 

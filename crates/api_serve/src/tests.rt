@@ -1,5 +1,6 @@
-// Requests over a keeper in memory: their replies, and what they saw and did.
-ghost use Rattle.std.specs.Prelude.{◌≡◌, ◌≢◌, ◌<◌, ◌-◌, ◌^◌, ◌++◌, List, IfOk, IfSome};
+// Requests over a keeper in memory, step by step: their replies, and what they saw and did.
+ghost use Rattle.std.specs.Prelude.{◌≡◌, ◌≢◌, ◌<◌, ◌-◌, ◌^◌, ◌++◌, List, [], Option, IfOk, IfSome};
+ghost use Rattle.store_core.specs.State.{State as Base};
 ghost use Rattle.store_core.specs.Counts.{opened_in, AllBy};
 ghost use Rattle.store_core.specs.Store.{SameBase};
 ghost use Rattle.store_core.specs.declared.entry.Entry.{Entry as Journaled};
@@ -8,10 +9,8 @@ ghost use Rattle.cmd_grammar.specs.Commands.{command_tree, IsAskable};
 
 mod many;
 
-use crate::run::serve;
-use crate::task::{Next, Served, Task};
-use crate::trace::{Item, Trace};
 use cmd_grammar::{Command, read_request};
+use cmd_tasks::{Ids, Item, Next, Served, Task, Trace, others_may_append, serve};
 use doc_paths::CollName;
 use json_tree::Text;
 use keeper_mem::MemKeeper;
@@ -93,6 +92,17 @@ fn tale(alloc: Global, served: &Served) -> Result<String, Fail> {
     Ok(tale)
 }
 
+// The task of a command on a collection.
+fn task_of(alloc: Global, session: u64, coll: CollName, command: Command) -> Task
+    requires asked { IsAskable (command_tree command) }
+    ensures session { result.session ≡ session }
+    ensures empty { result.trace.items.items ≡ [] }
+    ensures stands { (start : Option Base) (history : List Journaled) → StandsOn start history result }
+{
+    let mut ids = Ids::new(&[7; 28], 1, session);
+    Task::new(alloc, session, Some(coll), 0, command, &mut ids)
+}
+
 // A request is served whose session was opened.
 fn served(
     alloc: Global,
@@ -106,7 +116,7 @@ fn served(
     ensures grown { (more : List Journaled) × (store.new.journal ≡ store.old.journal ++ more) × AllBy session more }
     ensures base { SameBase store.old store.new }
 {
-    serve(alloc, store, Task::new(alloc, session, coll, 0, command))
+    serve(alloc, store, task_of(alloc, session, coll, command))
 }
 
 // A body is served, if it spells a command.
@@ -379,6 +389,7 @@ fn contended(
     requires apart { task.session ≢ other }
     requires stands { StandsOn store.old.start store.old.journal task }
 {
+    others_may_append();
     let mut task = task;
     'steps: for i in 0..12 {
         match task.step(alloc, store) {
@@ -445,7 +456,7 @@ fn pressed(
     contended(
         alloc,
         store,
-        Task::new(alloc, session, coll, 0, command),
+        task_of(alloc, session, coll, command),
         other,
         times,
     )
