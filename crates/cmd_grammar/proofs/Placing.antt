@@ -1,5 +1,5 @@
 -- A request without a refusal is of the keyspace, of its command's level, and about a collection of a right name.
-use Rattle.std.proofs.Common.{◌≡◌, ℕ, Bool, true, false, List, [], Option, Some, None, IsTrue, refl, ap, sym, ◌∙◌, subst, if◌then◌else◌}
+use Rattle.std.proofs.Common.{◌≡◌, ℕ, Bool, true, false, List, [], Option, Some, None, IsTrue, refl, sym, ◌∙◌, subst, if◌then◌else◌}
 use Rattle.std.specs.Option.{unwrap_or, is_some, IfSome}
 use Rattle.std.specs.Str.{bytes_eq}
 use Rattle.std.proofs.lemmas.Slice.Eq.{bytes_eq-Decides}
@@ -9,12 +9,12 @@ use Rattle.view_sort.specs.declared.page.PageState.{PageState}
 use Rattle.reply_env.specs.Messages.{bad_collection_name, no_keyspace}
 use Rattle.reply_env.specs.declared.request.Place.{Place}
 use Rattle.cmd_grammar.specs.Names.{is_on_documents}
-use Rattle.cmd_grammar.specs.Parts.{text_in, name_text, name_of}
-use Rattle.cmd_grammar.specs.Refused.{collection_named, keyspace_refusal, collection_refusal}
+use Rattle.cmd_grammar.specs.Parts.{text_in, name_text}
+use Rattle.cmd_grammar.specs.Refused.{collection_refusal}
 use Rattle.cmd_grammar.specs.Asked.{command_of, is_of_documents, target, IsPlaced}
 use Rattle.cmd_grammar.specs.declared.name.Name.{Name}
 use Rattle.cmd_grammar.specs.declared.name.Name.TheVariants.{InsertOne, InsertMany, FindOne, Find, CountDocuments, UpdateOne, UpdateMany, DeleteOne, DeleteMany, FindOneAndUpdate, FindOneAndReplace, FindOneAndDelete, CreateCollection, FindCollections, DeleteCollection}
-use Rattle.cmd_grammar.proofs.Held.{Holds, has_new_name, has_old_name}
+use Rattle.cmd_grammar.proofs.Held.{has_new_name, has_old_name}
 use Rattle.cmd_grammar.proofs.Passing.{Passed}
 
 same_keyspace : (b : Bool) (own name : List ℕ) → (b ≡ true → name ≡ own) → (if b then None else Some (no_keyspace name)) ≡ None → name ≡ own

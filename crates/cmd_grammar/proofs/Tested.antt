@@ -1,18 +1,17 @@
 -- The tests of a document, joined.
-use Rattle.std.proofs.Common.{◌≡◌, ℕ, List, [], ◌∷◌, Option, Some, None, refl, sym, ◌∙◌, ap, subst, codes}
-use Rattle.std.specs.Prelude.{Result, Ok, Err, ⊤}
+use Rattle.std.proofs.Common.{◌≡◌, ℕ, List, [], ◌∷◌, Option, Some, None, refl, sym, ◌∙◌, subst}
+use Rattle.std.specs.Prelude.{Result, Ok, ⊤}
 use Rattle.std.specs.Option.{option_or, option_and_then}
 use Rattle.json_tree.specs.Tree.{Tree, object, members_of}
-use Rattle.json_tree.specs.Members.{member_at}
 use Rattle.json_tree.specs.Doc.{id_in}
 use Rattle.doc_limits.specs.Limits.{broken}
 use Rattle.update_ops.specs.Upsert.{with_id}
 use Rattle.reply_env.specs.declared.reply.ErrorItem.{ErrorItem}
 use Rattle.cmd_grammar.specs.First.{first_of, first_by}
-use Rattle.cmd_grammar.specs.Documents.{id_kind_refusal, empty_id_refusal, limit_refusal, document_refusal, replacing_refusal}
+use Rattle.cmd_grammar.specs.Documents.{id_kind_refusal, empty_id_refusal, limit_refusal, document_refusal}
 use Rattle.cmd_grammar.specs.Commands.{stand_in, under, under_own}
-use Rattle.cmd_grammar.specs.Parts.{member_in, documents_of}
-use Rattle.cmd_grammar.specs.Refused.{inserted_refusal, many_inserted_refusal, replacement_refusal}
+use Rattle.cmd_grammar.specs.Parts.{documents_of}
+use Rattle.cmd_grammar.specs.Refused.{many_inserted_refusal}
 use Rattle.cmd_grammar.specs.Answers.{Refuses, Passes}
 use Rattle.cmd_grammar.specs.declared.fault.CommandFault.{CommandFault}
 use Rattle.cmd_grammar.proofs.Order.{goes_on, refuses_first}

@@ -19,17 +19,46 @@ use std::alloc::Global;
 fn find_one(parts: Parts) -> Command
     ensures { command_tree result ≡ made_of names.FindOne (spelled parts) null }
 {
-    let Parts { filter, listing, .. } = parts;
-    let Listing { projection, sort, .. } = listing;
-    Command::FindOne { filter, sort, projection }
+    let Parts {
+        filter,
+        listing,
+        ..
+    } = parts;
+    let Listing {
+        projection,
+        sort,
+        ..
+    } = listing;
+    Command::FindOne {
+        filter,
+        sort,
+        projection,
+    }
 }
 
 fn find(parts: Parts) -> Command
     ensures { command_tree result ≡ made_of names.Find (spelled parts) null }
 {
-    let Parts { filter, listing, .. } = parts;
-    let Listing { projection, sort, limit, skip, page } = listing;
-    Command::Find { filter, sort, projection, limit, skip, page }
+    let Parts {
+        filter,
+        listing,
+        ..
+    } = parts;
+    let Listing {
+        projection,
+        sort,
+        limit,
+        skip,
+        page,
+    } = listing;
+    Command::Find {
+        filter,
+        sort,
+        projection,
+        limit,
+        skip,
+        page,
+    }
 }
 
 fn count_documents(parts: Parts) -> Command
@@ -42,23 +71,47 @@ fn count_documents(parts: Parts) -> Command
 fn update_one(parts: Parts) -> Command
     ensures { command_tree result ≡ made_of names.UpdateOne (spelled parts) null }
 {
-    let Parts { filter, updates, listing, choices } = parts;
+    let Parts {
+        filter,
+        updates,
+        listing,
+        choices,
+    } = parts;
     let Listing { sort, .. } = listing;
-    Command::UpdateOne { filter, updates, sort, upsert: choices.upsert }
+    Command::UpdateOne {
+        filter,
+        updates,
+        sort,
+        upsert: choices.upsert,
+    }
 }
 
 fn update_many(parts: Parts) -> Command
     ensures { command_tree result ≡ made_of names.UpdateMany (spelled parts) null }
 {
-    let Parts { filter, updates, listing, choices } = parts;
+    let Parts {
+        filter,
+        updates,
+        listing,
+        choices,
+    } = parts;
     let Listing { page, .. } = listing;
-    Command::UpdateMany { filter, updates, upsert: choices.upsert, page }
+    Command::UpdateMany {
+        filter,
+        updates,
+        upsert: choices.upsert,
+        page,
+    }
 }
 
 fn delete_one(parts: Parts) -> Command
     ensures { command_tree result ≡ made_of names.DeleteOne (spelled parts) null }
 {
-    let Parts { filter, listing, .. } = parts;
+    let Parts {
+        filter,
+        listing,
+        ..
+    } = parts;
     let Listing { sort, .. } = listing;
     Command::DeleteOne { filter, sort }
 }
@@ -73,25 +126,69 @@ fn delete_many(parts: Parts) -> Command
 fn find_one_and_update(parts: Parts) -> Command
     ensures { command_tree result ≡ made_of names.FindOneAndUpdate (spelled parts) null }
 {
-    let Parts { filter, updates, listing, choices } = parts;
-    let Listing { projection, sort, .. } = listing;
-    Command::FindOneAndUpdate { filter, updates, sort, projection, upsert: choices.upsert, after: choices.after }
+    let Parts {
+        filter,
+        updates,
+        listing,
+        choices,
+    } = parts;
+    let Listing {
+        projection,
+        sort,
+        ..
+    } = listing;
+    Command::FindOneAndUpdate {
+        filter,
+        updates,
+        sort,
+        projection,
+        upsert: choices.upsert,
+        after: choices.after,
+    }
 }
 
 fn find_one_and_replace(parts: Parts, replacement: Value) -> Command
     ensures { command_tree result ≡ made_of names.FindOneAndReplace (spelled parts) (tree replacement) }
 {
-    let Parts { filter, listing, choices, .. } = parts;
-    let Listing { projection, sort, .. } = listing;
-    Command::FindOneAndReplace { filter, replacement, sort, projection, upsert: choices.upsert, after: choices.after }
+    let Parts {
+        filter,
+        listing,
+        choices,
+        ..
+    } = parts;
+    let Listing {
+        projection,
+        sort,
+        ..
+    } = listing;
+    Command::FindOneAndReplace {
+        filter,
+        replacement,
+        sort,
+        projection,
+        upsert: choices.upsert,
+        after: choices.after,
+    }
 }
 
 fn find_one_and_delete(parts: Parts) -> Command
     ensures { command_tree result ≡ made_of names.FindOneAndDelete (spelled parts) null }
 {
-    let Parts { filter, listing, .. } = parts;
-    let Listing { projection, sort, .. } = listing;
-    Command::FindOneAndDelete { filter, sort, projection }
+    let Parts {
+        filter,
+        listing,
+        ..
+    } = parts;
+    let Listing {
+        projection,
+        sort,
+        ..
+    } = listing;
+    Command::FindOneAndDelete {
+        filter,
+        sort,
+        projection,
+    }
 }
 
 // The elements of a list.

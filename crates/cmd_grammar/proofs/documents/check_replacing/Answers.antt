@@ -1,4 +1,3 @@
-use Rattle.json_tree.specs.View.{tree}
 use Rattle.cmd_grammar.proofs.Tested.{id_fires, names_decide}
 use Rattle.cmd_grammar.proofs.documents.check_replacing.Goals as goal
 
