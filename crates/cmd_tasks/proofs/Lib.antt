@@ -56,3 +56,4 @@ mod Fewness
 mod Calm
 mod Smooth
 mod Own
+mod Refusals
