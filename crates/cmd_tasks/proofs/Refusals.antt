@@ -1,5 +1,5 @@
 -- A request that is refused by itself is refused by an error of its own: it asked nothing of the keeper.
-use Rattle.std.proofs.Common.{◌≡◌, ◌⊎◌, ℕ, List, [], ◌∷◌, Bool, true, false, Option, Some, None, sym, subst, inl, inr}
+use Rattle.std.proofs.Common.{ℕ, List, [], ◌∷◌, Bool, true, false, Option, Some, None, sym, subst, inl, inr}
 use Rattle.std.specs.Prelude.{IfSome, not, ◌&&◌, ◌==◌, nat_le, length, is_none, is_some, codes, option_and_then, if◌then◌else◌}
 use Rattle.std.specs.Str.{bytes_eq}
 use Rattle.std.specs.Option.{option_or, option_map}
@@ -22,7 +22,7 @@ use Rattle.view_sort.specs.Projection.{projection_fault}
 use Rattle.view_sort.specs.Sort.{sort_fault}
 use Rattle.view_sort.specs.declared.fault.ViewFault.{ViewFault}
 use Rattle.view_sort.specs.declared.fault.ViewFault.TheVariants as view_faults
-use Rattle.reply_env.specs.Messages.{unread, no_command, no_keyspace, bad_collection_name, bad_field, bad_option, command_limit, bad_id_kind, empty_id, bad_member_name, broken_limit}
+use Rattle.reply_env.specs.Messages.{unread, no_keyspace, bad_collection_name, bad_field, bad_option, command_limit, bad_member_name, broken_limit}
 use Rattle.reply_env.specs.declared.reply.ErrorItem.{ErrorItem}
 use Rattle.reply_env.specs.declared.request.Place.{Place}
 use Rattle.reply_env.specs.declared.request.Request.{Request}
