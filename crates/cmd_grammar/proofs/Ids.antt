@@ -1,5 +1,5 @@
 -- A document without an id breaks no limit under one text of an id where it breaks none under another.
-use Rattle.std.proofs.Common.{◌≡◌, ◌+◌, ◌≤◌, ℕ, Bool, true, false, ◌==◌, max, List, [], ◌∷◌, ◌++◌, length, map, Option, Some, None, refl, sym, ◌∙◌, ap, ap₂, subst, codes, if◌then◌else◌, arith, length-append}
+use Rattle.std.proofs.Common.{◌≡◌, ◌+◌, ℕ, true, false, ◌==◌, max, List, [], ◌∷◌, ◌++◌, length, map, Option, Some, None, refl, sym, ◌∙◌, ap, ap₂, subst, codes, arith, length-append}
 use Rattle.std.specs.Prelude.{nat_lt}
 use Rattle.std.specs.List.{list_all, flat_map}
 use Rattle.std.proofs.lemmas.Bool.{ne_eqb, and_parts}
@@ -42,11 +42,13 @@ printed u e = ap (λ (s : List ℕ). length (34 ∷ (s ++ 34 ∷ []))) (all_plai
 abbrev front : List ℕ → Members → Tree
 front u ms = object (member (codes "_id") (text u) ms)
 
-text_length : (u : List ℕ) (ms : Members) → length (text_of (front u ms)) ≡ length (string_text u) + length (more_members ms) + 8
-text_length u ms = omega (arith, length-append (string_text u) (more_members ms))
+around : (a b m : List ℕ) → length (123 ∷ ((a ++ 58 ∷ (b ++ m)) ++ 125 ∷ [])) ≡ length a + length b + length m + 3
+around a b m = omega (arith, length-append (a ++ 58 ∷ (b ++ m)) (125 ∷ []), length-append a (58 ∷ (b ++ m)), length-append b m)
 
 same_length : (u v : List ℕ) (ms : Members) → length (string_text u) ≡ length (string_text v) → length (text_of (front u ms)) ≡ length (text_of (front v ms))
-same_length u v ms e = text_length u ms ∙ ap (λ n. n + length (more_members ms) + 8) e ∙ sym (text_length v ms)
+same_length u v ms e =
+    around (string_text (codes "_id")) (string_text u) (more_members ms) ∙ ap (λ n. length (string_text (codes "_id")) + n + length (more_members ms) + 3) e
+    ∙ sym (around (string_text (codes "_id")) (string_text v) (more_members ms))
 
 -- the first limit that is broken where the whole has so many bytes and the text so many
 abbrev measured : Members → ℕ → ℕ → Option Broken

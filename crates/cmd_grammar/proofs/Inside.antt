@@ -1,8 +1,10 @@
 -- The members of an object, as a list.
-use Rattle.std.proofs.Common.{◌≡◌, ℕ, List, [], ◌∷◌, length, map, Option, Some, None, refl, ap, ap₂, sym, ◌∙◌, subst, slice_get, arith, codes, Bool, true, false, if◌then◌else◌}
+use Rattle.std.proofs.Common.{◌≡◌, ℕ, List, [], ◌∷◌, length, map, Option, Some, None, refl, ap, ap₂, sym, ◌∙◌, subst, slice_get, arith, codes, Bool, true, false, not, ◌&&◌, ◌==◌, if◌then◌else◌}
 use Rattle.std.specs.Option.{option_map, option_and_then, unwrap_or}
 use Rattle.std.proofs.lemmas.List.{length-map}
 use Rattle.std.specs.Str.{bytes_eq}
+use Rattle.std.specs.List.{list_all}
+use Rattle.std.proofs.lemmas.Bool.{ne_eqb}
 use Rattle.json_tree.specs.Tree.{Tree, null, boolean, number, text, date, list, object, Members, no_members, member, elements_of, members_of, list_of_members}
 use Rattle.json_tree.specs.RoundTrips.{list_of_elements-elements_of}
 use Rattle.json_tree.specs.Members.{member_at}
@@ -10,7 +12,8 @@ use Rattle.json_tree.specs.Doc.{id_in}
 use Rattle.json_tree.specs.Writable.{IsWritable, MembersAreWritable}
 use Rattle.cmd_grammar.specs.First.{first_by}
 use Rattle.cmd_grammar.specs.Names.{command_named}
-use Rattle.cmd_grammar.specs.Rows.{Field, Row, row}
+use Rattle.update_ops.specs.Faults.{is_object}
+use Rattle.cmd_grammar.specs.Rows.{Field, Row, row, are_objects}
 use Rattle.cmd_grammar.specs.Fields.{option_refusal, options_refusal, members_refusal}
 use Rattle.view_sort.specs.Sort.{sort_in, key_of_member}
 use Rattle.cmd_grammar.specs.Parts.{member_in, elements_in, sort_of, documents_of}
@@ -45,6 +48,10 @@ documents_are t v ts e f =
 
 pub documents_length : (t v : Tree) (ts : List Tree) → Some v ≡ member_in (codes "documents") t → v ≡ list (elements_of ts) → length ts ≡ length (documents_of t)
 documents_length t v ts e f = ap (λ (l : List Tree). length l) (documents_are t v ts e f)
+
+pub objects_are : (v : Tree) (ts : List Tree) → v ≡ list (elements_of ts) → (length ts ≡ 0 → ⊥) → list_all is_object ts ≡ are_objects v
+objects_are v ts f some =
+    sym (ap are_objects f ∙ ap (λ (l : List Tree). not (length l == 0) && list_all is_object l) (list_of_elements-elements_of ts) ∙ ap (λ (b : Bool). not b && list_all is_object ts) (ne_eqb (length ts) 0 some))
 
 -- ---- an object of one member
 

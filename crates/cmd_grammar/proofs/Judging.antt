@@ -18,7 +18,7 @@ use Rattle.cmd_grammar.specs.Answers.{Refuses, RefusesFirst, PassesAll}
 use Rattle.cmd_grammar.specs.declared.name.Name.{Name}
 use Rattle.cmd_grammar.specs.declared.fault.CommandFault.{CommandFault}
 use Rattle.cmd_grammar.specs.declared.fault.CommandFault.TheVariants.{NoMemory}
-use Rattle.cmd_grammar.proofs.Order.{goes_on, none_of, refuses_first, refuses_before, fires, decides}
+use Rattle.cmd_grammar.proofs.Order.{goes_on, refuses_first, refuses_before, fires, decides}
 
 -- ---- a command's value
 

@@ -1,13 +1,12 @@
 pub mod Asking
 pub mod Bodies
 pub mod Bounds
-pub mod Documents
+pub mod Held
 pub mod Ids
 pub mod Inside
 pub mod Judging
 pub mod Levels
-pub mod Making
-pub mod Members
+pub mod Made
 pub mod OneAnswer
 pub mod Order
 pub mod Page
@@ -16,4 +15,5 @@ pub mod Passing
 pub mod Placing
 pub mod Storing
 pub mod Table
+pub mod Tested
 pub mod Update

@@ -18,8 +18,8 @@ use Rattle.cmd_grammar.proofs.Order.{neither_fires}
 -- ---- no test has fired
 
 pub record Passed (keyspace : List ℕ) (place : Place) (name : Name) (t : Tree) : Type 0 where
-  pub keyspace : keyspace_refusal keyspace place.keyspace ≡ None
-  pub collection : collection_refusal (collection_named place.collection (name, t)) ≡ None
+  pub own_keyspace : keyspace_refusal keyspace place.keyspace ≡ None
+  pub right_name : collection_refusal (collection_named place.collection (name, t)) ≡ None
   pub fields : fields_refusal (name, t) ≡ None
   pub limits : limits_refusal t ≡ None
   pub contents : contents_refusal t ≡ None
@@ -43,8 +43,8 @@ passed keyspace place t inner name e h =
     let c = neither_fires (paging_refusal inner) (first_of (limits_refusal inner ∷ parts_refusal inner ∷ [])) b.1 in
     let d = neither_fires (limits_refusal inner) (first_of (parts_refusal inner ∷ [])) c.1 in
     record {
-      keyspace = p.0;
-      collection = last (collection_refusal (collection_named place.collection (name, inner))) p.1;
+      own_keyspace = p.0;
+      right_name = last (collection_refusal (collection_named place.collection (name, inner))) p.1;
       fields = b.0;
       limits = d.0;
       contents = contents_pass inner (last (parts_refusal inner) d.1);

@@ -1,5 +1,5 @@
 -- A request without a refusal is of the keyspace, of its command's level, and about a collection of a right name.
-use Rattle.std.proofs.Common.{◌≡◌, ℕ, Bool, true, false, List, [], Option, Some, None, IsTrue, refl, ap, sym, ◌∙◌, subst, if◌then◌else◌}
+use Rattle.std.proofs.Common.{◌≡◌, ℕ, Bool, true, false, List, [], Option, Some, None, IsTrue, refl, sym, ◌∙◌, subst, if◌then◌else◌}
 use Rattle.std.specs.Option.{unwrap_or, is_some, IfSome}
 use Rattle.std.specs.Str.{bytes_eq}
 use Rattle.std.proofs.lemmas.Slice.Eq.{bytes_eq-Decides}
@@ -9,12 +9,12 @@ use Rattle.view_sort.specs.declared.page.PageState.{PageState}
 use Rattle.reply_env.specs.Messages.{bad_collection_name, no_keyspace}
 use Rattle.reply_env.specs.declared.request.Place.{Place}
 use Rattle.cmd_grammar.specs.Names.{is_on_documents}
-use Rattle.cmd_grammar.specs.Parts.{text_in, name_text, name_of}
-use Rattle.cmd_grammar.specs.Refused.{collection_named, keyspace_refusal, collection_refusal}
+use Rattle.cmd_grammar.specs.Parts.{text_in, name_text}
+use Rattle.cmd_grammar.specs.Refused.{collection_refusal}
 use Rattle.cmd_grammar.specs.Asked.{command_of, is_of_documents, target, IsPlaced}
 use Rattle.cmd_grammar.specs.declared.name.Name.{Name}
 use Rattle.cmd_grammar.specs.declared.name.Name.TheVariants.{InsertOne, InsertMany, FindOne, Find, CountDocuments, UpdateOne, UpdateMany, DeleteOne, DeleteMany, FindOneAndUpdate, FindOneAndReplace, FindOneAndDelete, CreateCollection, FindCollections, DeleteCollection}
-use Rattle.cmd_grammar.proofs.Members.{Holds, has_new_name, has_old_name}
+use Rattle.cmd_grammar.proofs.Held.{has_new_name, has_old_name}
 use Rattle.cmd_grammar.proofs.Passing.{Passed}
 
 same_keyspace : (b : Bool) (own name : List ℕ) → (b ≡ true → name ≡ own) → (if b then None else Some (no_keyspace name)) ≡ None → name ≡ own
@@ -59,25 +59,25 @@ level_of FindCollections page t = refl
 level_of DeleteCollection page t = refl
 
 about : (keyspace : List ℕ) (place : Place) (name : Name) (t : Tree) (page : Option PageState) → Passed keyspace place name t → HasRightName (target place (command_of page (name, t)))
-about keyspace place CreateCollection t page p = let n = has_new_name t p.fields in named_right (name_text t) (is_there _ n.value n.is_value n.is_kind) (right_name (name_text t) p.collection)
+about keyspace place CreateCollection t page p = let n = has_new_name t p.fields in named_right (name_text t) (is_there _ n.value n.is_value n.is_kind) (right_name (name_text t) p.right_name)
 about keyspace place FindCollections t page p = tt
-about keyspace place DeleteCollection t page p = let n = has_old_name t p.fields in named_right (name_text t) (is_there _ n.value n.is_value n.is_kind) (right_name (name_text t) p.collection)
-about keyspace place InsertOne t page p = right_name place.collection p.collection
-about keyspace place InsertMany t page p = right_name place.collection p.collection
-about keyspace place FindOne t page p = right_name place.collection p.collection
-about keyspace place Find t page p = right_name place.collection p.collection
-about keyspace place CountDocuments t page p = right_name place.collection p.collection
-about keyspace place UpdateOne t page p = right_name place.collection p.collection
-about keyspace place UpdateMany t page p = right_name place.collection p.collection
-about keyspace place DeleteOne t page p = right_name place.collection p.collection
-about keyspace place DeleteMany t page p = right_name place.collection p.collection
-about keyspace place FindOneAndUpdate t page p = right_name place.collection p.collection
-about keyspace place FindOneAndReplace t page p = right_name place.collection p.collection
-about keyspace place FindOneAndDelete t page p = right_name place.collection p.collection
+about keyspace place DeleteCollection t page p = let n = has_old_name t p.fields in named_right (name_text t) (is_there _ n.value n.is_value n.is_kind) (right_name (name_text t) p.right_name)
+about keyspace place InsertOne t page p = right_name place.collection p.right_name
+about keyspace place InsertMany t page p = right_name place.collection p.right_name
+about keyspace place FindOne t page p = right_name place.collection p.right_name
+about keyspace place Find t page p = right_name place.collection p.right_name
+about keyspace place CountDocuments t page p = right_name place.collection p.right_name
+about keyspace place UpdateOne t page p = right_name place.collection p.right_name
+about keyspace place UpdateMany t page p = right_name place.collection p.right_name
+about keyspace place DeleteOne t page p = right_name place.collection p.right_name
+about keyspace place DeleteMany t page p = right_name place.collection p.right_name
+about keyspace place FindOneAndUpdate t page p = right_name place.collection p.right_name
+about keyspace place FindOneAndReplace t page p = right_name place.collection p.right_name
+about keyspace place FindOneAndDelete t page p = right_name place.collection p.right_name
 
 pub placed : (keyspace : List ℕ) (place : Place) (name : Name) (t : Tree) (page : Option PageState) → Passed keyspace place name t → is_some place.collection ≡ is_on_documents name → IsPlaced keyspace place (command_of page (name, t))
 placed keyspace place name t page p level = record {
-  keyspace = same_keyspace (bytes_eq place.keyspace keyspace) keyspace place.keyspace (λ q. (bytes_eq-Decides place.keyspace keyspace).0 q) p.keyspace;
+  keyspace = same_keyspace (bytes_eq place.keyspace keyspace) keyspace place.keyspace (λ q. (bytes_eq-Decides place.keyspace keyspace).0 q) p.own_keyspace;
   level = level ∙ level_of name page t;
   is_name = about keyspace place name t page p;
 }

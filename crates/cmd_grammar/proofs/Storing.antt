@@ -1,22 +1,20 @@
 -- Documents that passed their tests may be inserted, or replace others.
-use Rattle.std.proofs.Common.{◌≡◌, ℕ, Bool, true, false, ◌&&◌, not, ◌==◌, List, [], ◌∷◌, length, ◌||◌, Option, Some, None, MatchOption, refl, sym, ◌∙◌, ap, subst, codes}
+use Rattle.std.proofs.Common.{◌≡◌, ℕ, true, false, not, ◌==◌, List, [], ◌∷◌, length, ◌||◌, Option, Some, None, MatchOption, refl, sym, subst}
 use Rattle.std.specs.List.{list_all, AllByRecursion}
-use Rattle.std.specs.Option.{option_map, option_or, option_and_then}
+use Rattle.std.specs.Option.{option_map, option_and_then}
 use Rattle.std.proofs.lemmas.Bool.{and_parts}
 use Rattle.json_tree.specs.Tree.{Tree, null, boolean, number, text, date, list, object, Members, list_of_elements}
 use Rattle.json_tree.specs.Id.{IsId, id_fault}
 use Rattle.json_tree.specs.Doc.{id_in, IsDocument, has_dollar_name}
 use Rattle.doc_limits.specs.Names.{first_bad_name, names_in}
 use Rattle.doc_limits.specs.Limits.{broken}
-use Rattle.doc_limits.specs.declared.limits.Broken.{Broken}
 use Rattle.doc_limits.proofs.Named.{all_plain}
 use Rattle.doc_limits.proofs.Dollars.{no_dollar_where_none}
 use Rattle.update_ops.specs.Faults.{is_object}
 use Rattle.update_ops.specs.Upsert.{with_id, IsReplacement}
-use Rattle.reply_env.specs.declared.reply.ErrorItem.{ErrorItem}
 use Rattle.cmd_grammar.specs.First.{first_of, first_by}
 use Rattle.cmd_grammar.specs.Documents.{id_kind_refusal, empty_id_refusal, name_refusal, limit_refusal, replacing_refusal, document_refusal}
-use Rattle.cmd_grammar.specs.Commands.{stand_in, under, under_own, IsStorable, IsInsertable}
+use Rattle.cmd_grammar.specs.Commands.{stand_in, under, under_own, IsInsertable}
 use Rattle.cmd_grammar.specs.Parts.{elements_in}
 use Rattle.cmd_grammar.specs.Rows.{are_objects}
 use Rattle.cmd_grammar.proofs.Order.{neither_fires}

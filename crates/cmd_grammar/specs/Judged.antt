@@ -1,12 +1,11 @@
 -- A request whose tests have been made, and the command that its parts make. Only the crate's private clauses cite it.
-use Rattle.std.specs.Prelude.{◌≡◌, ℕ, Bool, List, [], ◌∷◌, Option, Some, None, ⊤, IsTrue, is_some, codes, unwrap_or, option_and_then}
+use Rattle.std.specs.Prelude.{◌≡◌, ℕ, List, [], ◌∷◌, Option, Some, None, ⊤, IsTrue, is_some, codes, unwrap_or, option_and_then}
 use Rattle.std.specs.Option.{option_or}
 use Rattle.json_tree.specs.Tree.{Tree, null}
 use Rattle.filter_tree.specs.Filters.{FilterTree}
 use Rattle.filter_tree.specs.View.{filter_tree}
 use Rattle.update_ops.specs.Clauses.{Clause}
 use Rattle.view_sort.specs.Sort.{SortKeys}
-use Rattle.view_sort.specs.declared.page.PageState.{PageState}
 use Rattle.reply_env.specs.declared.reply.ErrorItem.{ErrorItem}
 use Rattle.reply_env.specs.declared.request.Place.{Place}
 use Rattle.cmd_grammar.specs.First.{first_of}

@@ -60,7 +60,7 @@ fn collection_named<'r>(place: &'r Place, name: Name, command: &'r Value) -> Opt
 }
 
 fn check_collection(alloc: Global, name: Option<&Text>) -> Result<(), CommandFault>
-    ensures { Passes (collection_refusal (option_map (λ s. s.now) name)) (λ _. ⊤) result }
+    ensures { Passes (collection_refusal (option_map (λ s. s.now) name.entry)) (λ _. ⊤) result }
 {
     let Some(name) = name else {
         return Ok(());

@@ -49,11 +49,7 @@ pub(crate) fn check_contents(alloc: Global, command: &Value) -> Result<(), Comma
 }
 
 /// What the command takes out of its value, copied; null where that is nothing.
-pub(crate) fn copied_content(
-    alloc: Global,
-    name: Name,
-    body: &Value,
-) -> Result<Value, CommandFault>
+pub(crate) fn copied_content(alloc: Global, name: Name, body: &Value) -> Result<Value, CommandFault>
     ensures { Passes None (λ v. tree v ≡ content_in name (tree body.now)) result }
 {
     let Some(content) = name.content() else {

@@ -1,5 +1,5 @@
 // The kinds of members' values.
-ghost use Rattle.std.specs.Prelude.{◌≡◌};
+ghost use Rattle.std.specs.Prelude.{◌≡◌, map};
 ghost use Rattle.std.specs.List.{list_all};
 ghost use Rattle.json_tree.specs.View.{tree};
 ghost use Rattle.update_ops.specs.Faults.{is_object};
@@ -8,7 +8,7 @@ ghost use Rattle.cmd_grammar.specs.Rows.{are_objects, has_kind};
 
 use crate::members::is_text;
 use crate::numbers::whole_in;
-use json_tree::{Items, Value};
+use json_tree::Value;
 
 /// What a member's value has to be.
 #[derive(Clone, Copy)]
@@ -29,13 +29,13 @@ pub(crate) enum Kind {
     BeforeOrAfter,
 }
 
-fn all_objects(items: &Items) -> bool
-    ensures { result ≡ list_all is_object items.now }
+fn all_objects(values: &[Value]) -> bool
+    ensures { result ≡ list_all is_object (map tree values.now) }
 {
-    for i in 0..items.len() {
-        let Some(Value::Object(_)) = items.get(i) else {
+    for value in values {
+        if !matches!(value, Value::Object(_)) {
             return false;
-        };
+        }
     }
     true
 }
@@ -44,7 +44,7 @@ fn are_objects(value: &Value) -> bool
     ensures { result ≡ are_objects (tree value.now) }
 {
     match value {
-        Value::List(items) => items.len() != 0 && all_objects(items),
+        Value::List(items) => items.len() != 0 && all_objects(items.as_slice()),
         _ => false,
     }
 }

@@ -19,65 +19,176 @@ use std::alloc::Global;
 fn find_one(parts: Parts) -> Command
     ensures { command_tree result ≡ made_of names.FindOne (spelled parts) null }
 {
-    let Parts { filter, listing, .. } = parts;
-    let Listing { projection, sort, .. } = listing;
-    Command::FindOne { filter, sort, projection }
+    let Parts {
+        filter,
+        listing,
+        ..
+    } = parts;
+    let Listing {
+        projection,
+        sort,
+        ..
+    } = listing;
+    Command::FindOne {
+        filter,
+        sort,
+        projection,
+    }
 }
 
 fn find(parts: Parts) -> Command
     ensures { command_tree result ≡ made_of names.Find (spelled parts) null }
 {
-    let Parts { filter, listing, .. } = parts;
-    let Listing { projection, sort, limit, skip, page } = listing;
-    Command::Find { filter, sort, projection, limit, skip, page }
+    let Parts {
+        filter,
+        listing,
+        ..
+    } = parts;
+    let Listing {
+        projection,
+        sort,
+        limit,
+        skip,
+        page,
+    } = listing;
+    Command::Find {
+        filter,
+        sort,
+        projection,
+        limit,
+        skip,
+        page,
+    }
+}
+
+fn count_documents(parts: Parts) -> Command
+    ensures { command_tree result ≡ made_of names.CountDocuments (spelled parts) null }
+{
+    let Parts { filter, .. } = parts;
+    Command::CountDocuments { filter }
 }
 
 fn update_one(parts: Parts) -> Command
     ensures { command_tree result ≡ made_of names.UpdateOne (spelled parts) null }
 {
-    let Parts { filter, updates, listing, choices } = parts;
+    let Parts {
+        filter,
+        updates,
+        listing,
+        choices,
+    } = parts;
     let Listing { sort, .. } = listing;
-    Command::UpdateOne { filter, updates, sort, upsert: choices.upsert }
+    Command::UpdateOne {
+        filter,
+        updates,
+        sort,
+        upsert: choices.upsert,
+    }
 }
 
 fn update_many(parts: Parts) -> Command
     ensures { command_tree result ≡ made_of names.UpdateMany (spelled parts) null }
 {
-    let Parts { filter, updates, listing, choices } = parts;
+    let Parts {
+        filter,
+        updates,
+        listing,
+        choices,
+    } = parts;
     let Listing { page, .. } = listing;
-    Command::UpdateMany { filter, updates, upsert: choices.upsert, page }
+    Command::UpdateMany {
+        filter,
+        updates,
+        upsert: choices.upsert,
+        page,
+    }
 }
 
 fn delete_one(parts: Parts) -> Command
     ensures { command_tree result ≡ made_of names.DeleteOne (spelled parts) null }
 {
-    let Parts { filter, listing, .. } = parts;
+    let Parts {
+        filter,
+        listing,
+        ..
+    } = parts;
     let Listing { sort, .. } = listing;
     Command::DeleteOne { filter, sort }
+}
+
+fn delete_many(parts: Parts) -> Command
+    ensures { command_tree result ≡ made_of names.DeleteMany (spelled parts) null }
+{
+    let Parts { filter, .. } = parts;
+    Command::DeleteMany { filter }
 }
 
 fn find_one_and_update(parts: Parts) -> Command
     ensures { command_tree result ≡ made_of names.FindOneAndUpdate (spelled parts) null }
 {
-    let Parts { filter, updates, listing, choices } = parts;
-    let Listing { projection, sort, .. } = listing;
-    Command::FindOneAndUpdate { filter, updates, sort, projection, upsert: choices.upsert, after: choices.after }
+    let Parts {
+        filter,
+        updates,
+        listing,
+        choices,
+    } = parts;
+    let Listing {
+        projection,
+        sort,
+        ..
+    } = listing;
+    Command::FindOneAndUpdate {
+        filter,
+        updates,
+        sort,
+        projection,
+        upsert: choices.upsert,
+        after: choices.after,
+    }
 }
 
 fn find_one_and_replace(parts: Parts, replacement: Value) -> Command
     ensures { command_tree result ≡ made_of names.FindOneAndReplace (spelled parts) (tree replacement) }
 {
-    let Parts { filter, listing, choices, .. } = parts;
-    let Listing { projection, sort, .. } = listing;
-    Command::FindOneAndReplace { filter, replacement, sort, projection, upsert: choices.upsert, after: choices.after }
+    let Parts {
+        filter,
+        listing,
+        choices,
+        ..
+    } = parts;
+    let Listing {
+        projection,
+        sort,
+        ..
+    } = listing;
+    Command::FindOneAndReplace {
+        filter,
+        replacement,
+        sort,
+        projection,
+        upsert: choices.upsert,
+        after: choices.after,
+    }
 }
 
 fn find_one_and_delete(parts: Parts) -> Command
     ensures { command_tree result ≡ made_of names.FindOneAndDelete (spelled parts) null }
 {
-    let Parts { filter, listing, .. } = parts;
-    let Listing { projection, sort, .. } = listing;
-    Command::FindOneAndDelete { filter, sort, projection }
+    let Parts {
+        filter,
+        listing,
+        ..
+    } = parts;
+    let Listing {
+        projection,
+        sort,
+        ..
+    } = listing;
+    Command::FindOneAndDelete {
+        filter,
+        sort,
+        projection,
+    }
 }
 
 // The elements of a list.
@@ -87,6 +198,16 @@ fn items(alloc: Global, content: Value) -> Items
     match content {
         Value::List(items) => items,
         _ => Items::new(alloc),
+    }
+}
+
+fn insert_many(alloc: Global, parts: Parts, content: Value) -> Command
+    ensures { command_tree result ≡ made_of names.InsertMany (spelled parts) (tree content) }
+{
+    let Parts { choices, .. } = parts;
+    Command::InsertMany {
+        documents: items(alloc, content),
+        ordered: choices.ordered,
     }
 }
 
@@ -136,21 +257,14 @@ pub(crate) fn made(
 {
     match name {
         Name::InsertOne => Ok(Command::InsertOne { document: content }),
-        Name::InsertMany => Ok(Command::InsertMany {
-            documents: items(alloc, content),
-            ordered: parts.choices.ordered,
-        }),
+        Name::InsertMany => Ok(insert_many(alloc, parts, content)),
         Name::FindOne => Ok(find_one(parts)),
         Name::Find => Ok(find(parts)),
-        Name::CountDocuments => Ok(Command::CountDocuments {
-            filter: parts.filter,
-        }),
+        Name::CountDocuments => Ok(count_documents(parts)),
         Name::UpdateOne => Ok(update_one(parts)),
         Name::UpdateMany => Ok(update_many(parts)),
         Name::DeleteOne => Ok(delete_one(parts)),
-        Name::DeleteMany => Ok(Command::DeleteMany {
-            filter: parts.filter,
-        }),
+        Name::DeleteMany => Ok(delete_many(parts)),
         Name::FindOneAndUpdate => Ok(find_one_and_update(parts)),
         Name::FindOneAndReplace => Ok(find_one_and_replace(parts, content)),
         Name::FindOneAndDelete => Ok(find_one_and_delete(parts)),

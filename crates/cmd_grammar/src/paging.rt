@@ -75,7 +75,12 @@ fn check_most(alloc: Global, field: &str, bound: u64, found: u64) -> Result<(), 
 pub(crate) fn check_limits(alloc: Global, command: &Value) -> Result<(), CommandFault>
     ensures { Passes (limits_refusal (tree command.now)) (λ _. ⊤) result }
 {
-    check_most(alloc, "documents", MOST_DOCUMENTS, documents_len(command) as u64)?;
+    check_most(
+        alloc,
+        "documents",
+        MOST_DOCUMENTS,
+        documents_len(command) as u64,
+    )?;
     check_most(alloc, "skip", MOST_SKIPPED, number_in(command, "skip"))?;
     check_most(alloc, "sort", MOST_PATHS, sort_len(command) as u64)
 }

@@ -1,6 +1,6 @@
 -- The states in which commands begin.
-use Rattle.std.proofs.Common.{◌≡◌, ℕ, ◌+◌, ◌<◌, ◌≤◌, List, [], ◌∷◌, ◌++◌, map, take, reverse, length, Bool, Option, Some, None, refl, sym, ap, ◌∙◌, subst, arith, Vec, Global}
-use Rattle.std.specs.Prelude.{is_none}
+use Rattle.std.proofs.Common.{◌≡◌, ℕ, ◌+◌, ◌<◌, ◌≤◌, List, [], ◌∷◌, ◌++◌, map, take, reverse, length, Bool, true, false, Option, Some, None, refl, sym, ap, ◌∙◌, subst, arith, Vec, Global}
+use Rattle.std.specs.Prelude.{is_none, is_some, not}
 use Rattle.std.specs.List.{AllByRecursion as Each}
 use Rattle.std.specs.Option.{option_map}
 use Rattle.std.proofs.Math.Seq.{take-length}
@@ -76,6 +76,13 @@ start_stand from stand h = record {
   short = subst AreShort (sym h.queue) tt;
   lost = let n = ap length h.lost in omega arith;
 }
+
+-- there is none where the test for one says so
+pub none_so : (o : Option PageState) (b : Bool) → is_some o ≡ not b → b ≡ is_none o
+none_so None true e = refl
+none_so None false e = cc
+none_so (Some page) true e = cc
+none_so (Some page) false e = refl
 
 pub many_begins : (job : Job) (many : Many) (from : Option Tree) (stand : Stand) → taking many ≡ job → IsMany many → IsStart from stand → from ≡ option_map (λ p. p.last) many.page.value → Begins job (paging_many many stand)
 many_begins job many from stand is ready start from_is = record {

@@ -1,7 +1,7 @@
 -- Which turn of a command that takes many documents comes next, by where it stands.
-use Rattle.std.proofs.Common.{◌≡◌, ℕ, zero, suc, ◌<◌, ◌≤◌, List, [], ◌∷◌, length, Bool, true, false, Option, Some, None, Result, Ok, Err, refl, ap, ◌∙◌}
+use Rattle.std.proofs.Common.{◌≡◌, ℕ, ◌<◌, ◌≤◌, List, [], ◌∷◌, length, Bool, true, false, Option, Some, None, Result, Ok, Err, refl, ap, ◌∙◌, arith}
 use Rattle.std.specs.Prelude.{nat_lt, if◌then◌else◌}
-use Rattle.std.proofs.lemmas.Bool.{lt-ltb, le-ltb}
+use Rattle.std.proofs.lemmas.Bool.{lt-ltb, le-ltb, ltb-false}
 use Rattle.json_tree.specs.Tree.{Tree}
 use Rattle.update_ops.specs.declared.fault.UpdateFault.{UpdateFault}
 use Rattle.store_core.specs.declared.entry.Change.{Change}
@@ -16,8 +16,7 @@ pub record IsAtEnd (st : Standing) : Type 0 where
   pub none : st.matched ≡ 0
 
 pub none_counted : (n : ℕ) → nat_lt 0 n ≡ false → n ≡ 0
-none_counted zero e = refl
-none_counted (suc n) e = cc
+none_counted n e = let l = ltb-false 0 n e in omega (arith, l)
 
 module _ (up : Option (Result Tree UpdateFault)) (doing : Doing) (st : Standing) where
   abbrev next : Turn

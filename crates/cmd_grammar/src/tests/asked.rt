@@ -146,10 +146,21 @@ fn asked_to_change(alloc: Global, command: Command) -> Result<String, Fail> {
         Command::UpdateMany { page, upsert, .. } => {
             with_flags(alloc, page_of(alloc, &page)?, &[upsert])
         }
-        Command::FindOneAndUpdate { sort, projection, upsert, after, .. } => {
-            with_flags(alloc, shown(alloc, &sort, &projection)?, &[upsert, after])
-        }
-        Command::FindOneAndReplace { replacement, sort, projection, upsert, after, .. } => {
+        Command::FindOneAndUpdate {
+            sort,
+            projection,
+            upsert,
+            after,
+            ..
+        } => { with_flags(alloc, shown(alloc, &sort, &projection)?, &[upsert, after]) }
+        Command::FindOneAndReplace {
+            replacement,
+            sort,
+            projection,
+            upsert,
+            after,
+            ..
+        } => {
             let text = with_flags(alloc, shown(alloc, &sort, &projection)?, &[upsert, after])?;
             replaced(alloc, text, &replacement)
         }
@@ -163,14 +174,31 @@ fn asked(alloc: Global, command: Command) -> Result<String, Fail> {
     match command {
         Command::InsertOne { document } => value_text(alloc, &document),
         Command::InsertMany { documents, ordered } => {
-            with_flags(alloc, value_text(alloc, &Value::List(documents))?, &[ordered])
+            with_flags(
+                alloc,
+                value_text(alloc, &Value::List(documents))?,
+                &[ordered],
+            )
         }
-        Command::FindOne { sort, projection, .. } => shown(alloc, &sort, &projection),
-        Command::Find { sort, projection, limit, skip, page, .. } => {
-            listed(alloc, shown(alloc, &sort, &projection)?, limit, skip, &page)
-        }
+        Command::FindOne {
+            sort,
+            projection,
+            ..
+        } => shown(alloc, &sort, &projection),
+        Command::Find {
+            sort,
+            projection,
+            limit,
+            skip,
+            page,
+            ..
+        } => { listed(alloc, shown(alloc, &sort, &projection)?, limit, skip, &page) }
         Command::DeleteOne { sort, .. } => order_of(alloc, &sort),
-        Command::FindOneAndDelete { sort, projection, .. } => shown(alloc, &sort, &projection),
+        Command::FindOneAndDelete {
+            sort,
+            projection,
+            ..
+        } => shown(alloc, &sort, &projection),
         command => asked_to_change(alloc, command),
     }
 }

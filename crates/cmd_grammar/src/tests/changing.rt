@@ -1,5 +1,6 @@
 // The same of updates that may insert, and of changes that show the document.
-pub(super) const ROWS: &str = r##"ks/c {"updateOne":{"update":{},"options":{"upsert":true}}} => updateOne
+pub(super) const ROWS: &str =
+    r##"ks/c {"updateOne":{"update":{},"options":{"upsert":true}}} => updateOne
 ks/c {"updateOne":{"update":{},"options":{"upsert":false}}} => updateOne
 ks/c {"updateOne":{"update":{},"options":{"upsert":1}}} => {"errors":[{"message":"Command field invalid: options.upsert","errorCode":"COMMAND_FIELD_INVALID"}]}
 ks/c {"updateOne":{"update":{},"options":{"upsert":null}}} => {"errors":[{"message":"Command field invalid: options.upsert","errorCode":"COMMAND_FIELD_INVALID"}]}

@@ -1,6 +1,6 @@
 use Rattle.json_tree.specs.View.{tree}
 use Rattle.cmd_grammar.specs.Documents.{document_refusal}
-use Rattle.cmd_grammar.proofs.Documents.{member_tested, member_untested}
+use Rattle.cmd_grammar.proofs.Tested.{member_tested, member_untested}
 use Rattle.cmd_grammar.proofs.contents.check_inserted.Goals as goal
 
 pub returns-in-Some : goal.returns-in-Some

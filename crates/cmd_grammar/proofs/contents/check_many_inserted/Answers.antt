@@ -2,7 +2,7 @@ use Rattle.std.proofs.Common.{ap, sym, ◌∙◌}
 use Rattle.std.specs.Option.{option_map}
 use Rattle.json_tree.specs.View.{tree}
 use Rattle.cmd_grammar.proofs.Inside.{documents_are}
-use Rattle.cmd_grammar.proofs.Documents.{documents_tested}
+use Rattle.cmd_grammar.proofs.Tested.{documents_tested}
 use Rattle.cmd_grammar.proofs.contents.check_many_inserted.Goals as goal
 
 pub returns-in-Some-List : goal.returns-in-Some-List

@@ -1,4 +1,4 @@
-use Rattle.cmd_grammar.proofs.Documents.{sizes_decide}
+use Rattle.cmd_grammar.proofs.Tested.{sizes_decide}
 use Rattle.cmd_grammar.proofs.Order.{refuses_first}
 use Rattle.cmd_grammar.proofs.documents.check_document.Goals as goal
 

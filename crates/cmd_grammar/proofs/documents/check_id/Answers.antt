@@ -1,5 +1,5 @@
 use Rattle.json_tree.specs.View.{tree}
-use Rattle.cmd_grammar.proofs.Documents.{id_absent, id_present}
+use Rattle.cmd_grammar.proofs.Tested.{id_absent, id_present}
 use Rattle.cmd_grammar.proofs.documents.check_id.Goals as goal
 
 pub returns-in-None : goal.returns-in-None

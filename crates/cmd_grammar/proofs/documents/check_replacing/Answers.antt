@@ -1,5 +1,4 @@
-use Rattle.json_tree.specs.View.{tree}
-use Rattle.cmd_grammar.proofs.Documents.{id_fires, names_decide}
+use Rattle.cmd_grammar.proofs.Tested.{id_fires, names_decide}
 use Rattle.cmd_grammar.proofs.documents.check_replacing.Goals as goal
 
 pub returns-in-Ok : goal.returns-in-Ok

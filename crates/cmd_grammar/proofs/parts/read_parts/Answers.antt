@@ -21,5 +21,5 @@ returns-in-Err-read_listing-clause-answers c = listing_fires (tree c.args.comman
 pub returns-in-Ok-read_listing-clause-answers : goal.returns-in-Ok-read_listing-clause-answers
 returns-in-Ok-read_listing-clause-answers c = (
   parts_pass (tree c.args.command.now) c.in-Ok.ensures.answers.0 c.in-Ok-read_updates.ensures.0 c.in-Ok-read_listing.ensures.0,
-  record { filter = c.in-Ok.ensures.answers.1; updates = c.in-Ok-read_updates.ensures.1; listing = c.in-Ok-read_listing.ensures.1; choices = c.choices_in.ensures },
+  record { filter = c.in-Ok.ensures.answers.1; updates = c.in-Ok-read_updates.ensures.1; listing = c.in-Ok-read_listing.ensures.1; choices = c.choices_in-choices.ensures },
 )

@@ -1,5 +1,5 @@
 use Rattle.json_tree.specs.View.{tree}
-use Rattle.cmd_grammar.proofs.Making.{answers_made, named_so, placed_made, ready_made}
+use Rattle.cmd_grammar.proofs.Made.{answers_made, named_so, placed_made, ready_made}
 use Rattle.cmd_grammar.proofs.reading.take_command.Goals as goal
 
 pub made-requires : goal.made-requires

@@ -1,13 +1,13 @@
 -- The command that a request's parts make, with the content of its value.
-use Rattle.std.proofs.Common.{◌≡◌, ℕ, List, Option, Some, None, IsTrue, refl, ap, sym, ◌∙◌, subst, codes}
+use Rattle.std.proofs.Common.{◌≡◌, ℕ, List, Option, Some, None, refl, ap, sym, ◌∙◌, subst}
 use Rattle.std.specs.Prelude.{Result, Ok, Err, IfOk}
-use Rattle.std.specs.Option.{option_map, option_and_then, unwrap_or, is_some}
+use Rattle.std.specs.Option.{option_map, option_and_then, unwrap_or}
 use Rattle.json_tree.specs.Tree.{Tree, null}
 use Rattle.filter_tree.specs.View.{filter_tree}
 use Rattle.view_sort.specs.declared.page.PageState.{PageState}
 use Rattle.reply_env.specs.declared.request.Place.{Place}
 use Rattle.cmd_grammar.specs.Commands.{CommandTree, command_tree, IsAskable, IsAskableFilter}
-use Rattle.cmd_grammar.specs.Parts.{text_in, filter_of, updates_of, sort_of, shows_of, limit_of, skip_of, name_text, page_text, IsPage}
+use Rattle.cmd_grammar.specs.Parts.{filter_of, updates_of, sort_of, shows_of, limit_of, skip_of, IsPage}
 use Rattle.cmd_grammar.specs.Refused.{refused}
 use Rattle.cmd_grammar.specs.Asked.{command_of, Asks, IsPlaced}
 use Rattle.cmd_grammar.specs.Judged.{AreParts, IsJudged, choices_of, content_name, content_at, content_of, content_in, HasName, Spelled, spelled, made_of}
@@ -21,7 +21,7 @@ use Rattle.cmd_grammar.specs.declared.fault.CommandFault.TheVariants.{Refused, N
 use Rattle.cmd_grammar.proofs.Asking.{askable}
 use Rattle.cmd_grammar.proofs.Judging.{page_is}
 use Rattle.cmd_grammar.proofs.Levels.{at_name}
-use Rattle.cmd_grammar.proofs.Members.{Holds, has_new_name, has_old_name}
+use Rattle.cmd_grammar.proofs.Held.{has_new_name, has_old_name}
 use Rattle.cmd_grammar.proofs.Passing.{Passed, passed}
 use Rattle.cmd_grammar.proofs.Placing.{placed, is_there}
 
@@ -86,7 +86,6 @@ has_name keyspace place FindCollections t p = tt
 -- ---- a request that was judged, and the content of its value
 
 module _ (keyspace : List ℕ) (place : Place) (t : Tree) (name : Name) (p : Parts) (v : Tree) (unrefused : refused keyspace place t ≡ None) (j : IsJudged place t name p) (content : v ≡ content_in name t) where
-
   no_test : Passed keyspace place name j.inner
   no_test = passed keyspace place t j.inner name j.is_at unrefused
 

@@ -1,18 +1,17 @@
 -- The tests of a document, joined.
-use Rattle.std.proofs.Common.{◌≡◌, List, [], ◌∷◌, Option, Some, None, refl, sym, ◌∙◌, ap, subst, codes}
-use Rattle.std.specs.Prelude.{Result, Ok, Err, ⊤}
+use Rattle.std.proofs.Common.{◌≡◌, ℕ, List, [], ◌∷◌, Option, Some, None, refl, sym, ◌∙◌, subst}
+use Rattle.std.specs.Prelude.{Result, Ok, ⊤}
 use Rattle.std.specs.Option.{option_or, option_and_then}
 use Rattle.json_tree.specs.Tree.{Tree, object, members_of}
-use Rattle.json_tree.specs.Members.{member_at}
 use Rattle.json_tree.specs.Doc.{id_in}
 use Rattle.doc_limits.specs.Limits.{broken}
 use Rattle.update_ops.specs.Upsert.{with_id}
 use Rattle.reply_env.specs.declared.reply.ErrorItem.{ErrorItem}
 use Rattle.cmd_grammar.specs.First.{first_of, first_by}
-use Rattle.cmd_grammar.specs.Documents.{id_kind_refusal, empty_id_refusal, limit_refusal, document_refusal, replacing_refusal}
+use Rattle.cmd_grammar.specs.Documents.{id_kind_refusal, empty_id_refusal, limit_refusal, document_refusal}
 use Rattle.cmd_grammar.specs.Commands.{stand_in, under, under_own}
-use Rattle.cmd_grammar.specs.Parts.{member_in, documents_of}
-use Rattle.cmd_grammar.specs.Refused.{inserted_refusal, many_inserted_refusal, replacement_refusal}
+use Rattle.cmd_grammar.specs.Parts.{documents_of}
+use Rattle.cmd_grammar.specs.Refused.{many_inserted_refusal}
 use Rattle.cmd_grammar.specs.Answers.{Refuses, Passes}
 use Rattle.cmd_grammar.specs.declared.fault.CommandFault.{CommandFault}
 use Rattle.cmd_grammar.proofs.Order.{goes_on, refuses_first}
@@ -62,8 +61,8 @@ sized t o = limit_refusal (broken (under_own stand_in t o))
 pub sized_alone : (t : Tree) (r : Tested) (id : Tree) → Some id ≡ id_in t → Passes (limit_refusal (broken t)) (λ _. ⊤) r → Passes (limit_refusal (broken (under stand_in t))) (λ _. ⊤) r
 sized_alone t r id e h = subst (λ o. Passes (sized t o) (λ _. ⊤) r) e h
 
-pub sized_under : (t : Tree) (r : Tested) → None ≡ id_in t → Passes (limit_refusal (broken (with_id stand_in t))) (λ _. ⊤) r → Passes (limit_refusal (broken (under stand_in t))) (λ _. ⊤) r
-sized_under t r e h = subst (λ o. Passes (sized t o) (λ _. ⊤) r) e h
+pub sized_standing : (t : Tree) (ms : List (List ℕ × Tree)) (r : Tested) → t ≡ object (members_of ms) → None ≡ id_in t → Passes (limit_refusal (broken (with_id stand_in (object (members_of ms))))) (λ _. ⊤) r → Passes (limit_refusal (broken (under stand_in t))) (λ _. ⊤) r
+sized_standing t ms r f e h = subst (λ o. Passes (sized t o) (λ _. ⊤) r) e (subst (λ (u : Tree). Passes (limit_refusal (broken (with_id stand_in u))) (λ _. ⊤) r) (sym f) h)
 
 -- ---- in a command's value
 
