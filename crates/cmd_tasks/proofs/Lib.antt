@@ -58,3 +58,4 @@ mod Fewness
 mod Calm
 mod Smooth
 mod Own
+mod Refusals

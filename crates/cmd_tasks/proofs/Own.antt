@@ -1,5 +1,5 @@
 -- Where nobody disturbs a session, the replies to its requests tell no failed call of the keeper and no write that was lost to another.
-use Rattle.std.proofs.Common.{◌≡◌, ℕ, ◌+◌, ◌≤◌, List, [], ◌∷◌, ◌++◌, map, drop, length, Option, Some, None, Result, Ok, Err, refl, sym, ap, subst, arith, inl, inr, length-append, Vec, Global}
+use Rattle.std.proofs.Common.{◌≡◌, ◌⊎◌, ℕ, ◌+◌, ◌≤◌, List, [], ◌∷◌, ◌++◌, map, drop, length, Option, Some, None, Result, Ok, Err, refl, sym, ap, subst, arith, inl, inr, length-append, Vec, Global}
 use Rattle.std.specs.Prelude.{MatchOption, slice_get}
 use Rattle.std.specs.List.{AllByRecursion as Each}
 use Rattle.std.specs.Option.{option_map}
@@ -10,12 +10,11 @@ use Rattle.shred_cols.specs.Rows.{first}
 use Rattle.col_keeper.specs.Tables.{Name}
 use Rattle.filter_tree.specs.Filters.{FilterTree}
 use Rattle.update_ops.specs.declared.fault.UpdateFault.{UpdateFault}
-use Rattle.update_ops.specs.declared.fault.UpdateFault.TheVariants as update_faults
 use Rattle.view_sort.specs.Sort.{SortKeys}
 use Rattle.view_sort.specs.View.{view}
 use Rattle.view_sort.specs.declared.page.PageState.{PageState}
 use Rattle.reply_env.specs.Messages as errors
-use Rattle.reply_env.specs.Reply.{IsRefusalOf, IsRefusalAfter}
+use Rattle.reply_env.specs.Reply.{IsRefusal, IsRefusalOf, IsRefusalAfter}
 use Rattle.reply_env.specs.declared.reply.ErrorItem.{ErrorItem}
 use Rattle.reply_env.specs.declared.reply.SoFar.{SoFar}
 use Rattle.reply_env.specs.declared.reply.Reply.{Reply}
@@ -40,22 +39,13 @@ use Rattle.cmd_tasks.specs.Undisturbed.{IsOwn, TellsOwn, IsSmooth, Undisturbed, 
 use Rattle.cmd_tasks.specs.declared.trace.Item.{Item}
 use Rattle.cmd_tasks.specs.declared.trace.Item.TheVariants.{Looked, Wrote, Lost, Faulted}
 use Rattle.cmd_tasks.proofs.Calm.{IsCalm, IsNoFault, each_append, each_front, each_rest, faultless, opened_late, journal_rest, points_late, calm_sights, behind_opening}
+use Rattle.cmd_tasks.proofs.Refusals.{update_own}
 use Rattle.cmd_tasks.proofs.Smooth.{match_out, Calm, no_losses, IsCalmTurn, many_calm, part_smooth, stopped_smooth}
 
 -- ---- errors
 
 taken_own : (id : Tree) (tx : ℕ) → IsOwn (errors.already_exists id tx)
 taken_own id tx = (λ e. Prim.cc e, λ e. Prim.cc e)
-
-fault_own : (fault : UpdateFault) → IsOwn (update_error fault)
-fault_own (update_faults.UnknownOperator name) = (λ e. Prim.cc e, λ e. Prim.cc e)
-fault_own (update_faults.BadOperand operator path) = (λ e. Prim.cc e, λ e. Prim.cc e)
-fault_own (update_faults.Overlap one other) = (λ e. Prim.cc e, λ e. Prim.cc e)
-fault_own update_faults.TouchesId = (λ e. Prim.cc e, λ e. Prim.cc e)
-fault_own (update_faults.WrongTarget path) = (λ e. Prim.cc e, λ e. Prim.cc e)
-fault_own (update_faults.NumberRange path) = (λ e. Prim.cc e, λ e. Prim.cc e)
-fault_own (update_faults.Broken b) = (λ e. Prim.cc e, λ e. Prim.cc e)
-fault_own update_faults.NoMemory = (λ e. Prim.cc e, λ e. Prim.cc e)
 
 -- ---- replies by their form
 
@@ -87,6 +77,11 @@ refusal_own es So_far reply own h = own_if_refused reply (λ listed so_far e. le
 
 one_own : (error : ErrorItem) (so_far : Option SoFar) (reply : Reply) → IsOwn error → IsRefusalAfter so_far error reply → TellsOwn reply
 one_own error so_far reply own h = refusal_own (error ∷ []) (λ done. done ≡ so_far) reply (own, tt) h
+
+-- the reply to a request that is refused by itself
+blamed : (error : ErrorItem) (reply : Reply) → IsOwn error → IsRefusal error reply ⊎ (reply ≡ replies.NoMemory 0) → TellsOwn reply
+blamed error reply own (inl h) = one_own error None reply own h
+blamed error reply own (inr h) = same_own reply (replies.NoMemory 0) h tt
 
 -- ---- insertions
 
@@ -123,12 +118,12 @@ tells_own deletes form o reply h = deletion_own form o reply h
 met_own : (doing : Doing) (form : Form) (d : Tree) (r : Result (Option Change) UpdateFault) (reply : Reply) → TellsMet doing form d r reply → TellsOwn reply
 met_own doing form d (Ok None) reply h = tells_own doing form (unchanged d) reply h
 met_own doing form d (Ok (Some change)) reply h = absurd h
-met_own doing form d (Err fault) reply h = one_own (update_error fault) None reply (fault_own fault) h
+met_own doing form d (Err fault) reply h = one_own (update_error fault) None reply (update_own fault) h
 
 unput_own : (doing : Doing) (form : Form) (o : Option (Result Tree UpdateFault)) (reply : Reply) → TellsUnput doing form o reply → TellsOwn reply
 unput_own doing form None reply h = tells_own doing form none_found reply h
 unput_own doing form (Some (Ok d)) reply h = absurd h
-unput_own doing form (Some (Err fault)) reply h = one_own (update_error fault) None reply (fault_own fault) h
+unput_own doing form (Some (Err fault)) reply h = one_own (update_error fault) None reply (update_own fault) h
 
 module _ (base : Base) (coll : Name) (k n : ℕ) where
   -- ---- searches
@@ -181,7 +176,7 @@ module _ (base : Base) (coll : Name) (k n : ℕ) where
   ends_own doing page st (is_done more) reply c h = same_own reply (done_reply doing page st more) h (done_own doing page st more)
   ends_own doing page st (is_put d) reply c h = same_own reply _ h tt
   ends_own doing page st (is_taken d tx) reply c h = one_own (errors.already_exists (id_of d) tx) None reply (taken_own (id_of d) tx) h
-  ends_own doing page st (is_refused fault) reply c h = one_own (update_error fault) (so_far_of doing st) reply (fault_own fault) h
+  ends_own doing page st (is_refused fault) reply c h = one_own (update_error fault) (so_far_of doing st) reply (update_own fault) h
   ends_own doing page st gives_up reply c h = absurd c
 
   -- ---- collections
@@ -254,8 +249,8 @@ module _ (base : Base) (coll : Name) (k n : ℕ) where
 module _ (base : Base) (H : List Entry) (k n : ℕ) (enough : n ≤ length H) (by : AllBy k (drop n H)) (none : Each IsNoFault (drop n H)) where
   exchange_calm : (x : Exchange) → Each (λ i. n ≤ point i) x.trace → (asking : Asking) → Answered base H k x.moment x.ids asking x.trace x.reply → Undisturbed base H k asking x.trace x.reply
   exchange_calm x late (asks_for coll c) h = serves_calm base (name_of coll) k n (job_of x.moment x.ids c) (sights_of H x.trace) x.reply (calm_sights H k n enough by none x.trace late) h
-  exchange_calm x late (is_refused_asking error) h = tt
-  exchange_calm x late is_unread h = tt
+  exchange_calm x late (is_refused_asking error) h = λ own. blamed error x.reply own h.1
+  exchange_calm x late is_unread h = same_own x.reply (replies.NoMemory 0) h.1 tt
 
   exchanges_calm : (xs : List Exchange) → Each (λ i. n ≤ point i) (items xs) → AreAnswered base H k xs → Each (IsUndisturbed base H k) xs
   exchanges_calm [] late h = tt

@@ -36,11 +36,12 @@ module _ (base : State) (coll : Name) (k : ℕ) where
   abbrev pub IsSmooth : Sight → Type 0
   IsSmooth s = IsSmoothAs s.item s
 
--- so is all that the request saw and did, and its reply tells nothing else; one that is refused by itself asks nothing of the keeper
+-- So is all that the request saw and did, and so is its reply. The reply to one that is refused by itself tells no more than
+-- that error does.
 abbrev pub Undisturbed : State → List Entry → ℕ → Asking → List Item → Reply → Type 0
 Undisturbed base H k (asks_for coll c) trace reply = Each (IsSmooth base (name_of coll) k) (sights H trace) × TellsOwn reply
-Undisturbed base H k (is_refused error) trace reply = ⊤
-Undisturbed base H k is_unread trace reply = ⊤
+Undisturbed base H k (is_refused error) trace reply = IsOwn error → TellsOwn reply
+Undisturbed base H k is_unread trace reply = TellsOwn reply
 
 abbrev pub IsUndisturbed : State → List Entry → ℕ → Exchange → Type 0
 IsUndisturbed base H k x = Undisturbed base H k x.asking x.trace x.reply

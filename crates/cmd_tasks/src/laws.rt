@@ -8,6 +8,9 @@ ghost use Rattle.shred_cols.specs.Rows.{ascends};
 ghost use Rattle.col_keeper.specs.Tables.{Name};
 ghost use Rattle.reply_env.specs.declared.reply.Reply.{Reply as Answer};
 ghost use Rattle.reply_env.specs.declared.reply.Reply.TheVariants.{NoMemory};
+ghost use Rattle.reply_env.specs.declared.reply.ErrorItem.{ErrorItem as Blamed};
+ghost use Rattle.reply_env.specs.declared.request.Request.{Request as Asked};
+ghost use Rattle.cmd_grammar.specs.Requests.{IsRefused};
 ghost use Rattle.store_core.specs.State.{State as Base};
 ghost use Rattle.store_core.specs.Journal.{IsJournal};
 ghost use Rattle.store_core.specs.Counts.{AllBy, opened_in};
@@ -19,7 +22,7 @@ ghost use Rattle.view_sort.specs.declared.page.PageState.{PageState};
 ghost use Rattle.cmd_grammar.specs.Commands.{CommandTree, Shows, command_tree, update_many, delete_many};
 ghost use Rattle.cmd_tasks.specs.Served.{IsServed, sights};
 ghost use Rattle.cmd_tasks.specs.Session.{Exchange, IsSession, IsAnswered, AreCounted, AreSessions, AreWithin, NoWork, Records};
-ghost use Rattle.cmd_tasks.specs.Undisturbed.{IsUndisturbed};
+ghost use Rattle.cmd_tasks.specs.Undisturbed.{IsOwn, IsUndisturbed};
 ghost use Rattle.cmd_tasks.specs.Joined.{Page, IdsAreTold, ArePages, ShowEachOnce};
 ghost use Rattle.cmd_tasks.specs.Doing.{makes, updates, deletes};
 ghost use Rattle.cmd_tasks.specs.Jobs.{upsert_id};
@@ -114,4 +117,10 @@ pub fn each_match_is_counted()
 pub fn a_session_alone_is_undisturbed()
     ensures { (base : Base) (before more : List Journaled) (k low high : ℕ) (exchanges : List Exchange) → AllBy k more → AreCounted low high more → (Rose low high → ⊥)
         → IsSession base (before ++ Opened k ∷ more) k exchanges → Each (IsUndisturbed base (before ++ Opened k ∷ more) k) exchanges }
+{}
+
+/// A request that is refused by itself is refused by an error of its own: it tells neither a failed call of the keeper nor a
+/// lost write.
+pub fn a_refused_request_blames_itself()
+    ensures { (keyspace : List ℕ) (request : Asked) (error : Blamed) → IsRefused keyspace request error → IsOwn error }
 {}

@@ -6,7 +6,7 @@ use Rattle.outside_io.specs.Causes.{Rose}
 use Rattle.outside_io.specs.Told.{Reading, Writing, IsHindered}
 use Rattle.col_keeper.specs.Tables.{Tables}
 use Rattle.store_core.specs.Opening.{would_live}
-use Rattle.cmd_tasks.specs.Undisturbed.{IsUndisturbed}
+use Rattle.cmd_tasks.specs.Undisturbed.{TellsOwn, IsUndisturbed}
 use Rattle.api_serve.specs.Lines.{HasLines}
 use Rattle.api_serve.specs.Request.{AreRightLines}
 use Rattle.api_serve.specs.Run.{ServesInput}
@@ -34,7 +34,9 @@ module _ {K : Type 0} (tables : K → Option Tables) (failed : K → ℕ) (words
     pub sink : IsHindered before after → ⊥
     pub keeper : Rose (failed given) (failed kept) → ⊥
 
-  -- Every line was read, its request served, and its reply written, as of any run that ends so; and nobody disturbed a request.
+  -- Every line was read, its request served, and its reply written, as of any run that ends so. Nobody disturbed a request: no
+  -- call of the keeper failed under it, no write of it was lost to another session, and no reply tells of either.
   pub record RunsUndisturbed (seed : List ℕ) (times : Option (List ℤ)) : Type 0 where
     pub run : Runs tables failed words given kept seed times (λ Served. ServesInput Served from to before after)
     pub undisturbed : ForSome run.start (λ base. Each (IsUndisturbed base run.history run.ended.served.number) run.ended.served.exchanges)
+    pub own : ForSome run.start (λ base. Each (λ x. TellsOwn x.reply) run.ended.served.exchanges)
