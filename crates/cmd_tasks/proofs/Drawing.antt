@@ -1,10 +1,12 @@
 -- Documents under the ids that are drawn for them.
-use Rattle.std.proofs.Common.{◌≡◌, ℕ, zero, suc, ◌+◌, ◌<◌, ◌≤◌, List, [], ◌∷◌, ◌++◌, map, reverse, length, drop, take, Option, Some, None, Result, Ok, Err, refl, sym, ap, ◌∙◌, subst, arith, Vec, Global, slice_get, slice_set, add-one}
-use Rattle.std.specs.Prelude.{IfSome, IfOk, IsSome}
+use Rattle.std.proofs.Common.{◌≡◌, ℕ, zero, suc, ◌+◌, ◌<◌, ◌≤◌, List, [], ◌∷◌, ◌++◌, map, reverse, length, drop, take, Bool, true, false, is_some, codes, Option, Some, None, Result, Ok, Err, refl, sym, ap, ◌∙◌, subst, arith, Vec, Global, slice_get, slice_set, add-one}
+use Rattle.std.specs.Prelude.{IfSome, IfOk}
+use Rattle.std.specs.Option.{option_map}
 use Rattle.std.specs.List.{AllByRecursion as Each}
 use Rattle.std.proofs.lemmas.List.{append-nil, append_assoc, map-append, length-map}
 use Rattle.rand_core.specs.Stream.{Stream}
-use Rattle.json_tree.specs.Tree.{Tree, null, boolean, number, text, date, list, object, members_of}
+use Rattle.json_tree.specs.Tree.{Tree, null, boolean, number, text, date, list, object, Members, members_of}
+use Rattle.json_tree.specs.Members.{member_at}
 use Rattle.json_tree.specs.Doc.{id_in, IsDocument}
 use Rattle.json_tree.specs.View.{tree}
 use Rattle.json_tree.specs.declared.value.Value.{Value}
@@ -15,6 +17,8 @@ use Rattle.cmd_grammar.specs.Commands.{stand_in, under_own, IsInsertable, IsStor
 use Rattle.cmd_tasks.specs.Jobs.{under_next, under_ids, one_if_none, without_id}
 use Rattle.cmd_tasks.specs.Ids.{drawn, after_drawing, IsGenerated}
 use Rattle.cmd_tasks.specs.First.{IsAdded}
+use Rattle.cmd_tasks.proofs.Fronting.{id_of_pairs}
+use Rattle.cmd_tasks.proofs.Places.{drop_at, drop_all, get_same, drop_same}
 
 -- ---- the ids of the first document, and those of the others
 
@@ -53,6 +57,45 @@ after_first (Some own) ds s = ap (λ (n : ℕ). after_drawing n s) (none_more (w
 pub after_step : (d : Tree) (ds : List Tree) (s : Stream) → after_drawing (without_id (d ∷ ds)) s ≡ after_drawing (without_id ds) (behind_first d s)
 after_step d ds s = after_first (id_in d) ds s
 
+-- ---- one object
+
+-- it has an id, and stays as it is
+has_id : {X : Type 0} (f : X → Tree) (o : Option X) (ms : List (List ℕ × Tree)) → option_map f o ≡ member_at (codes "_id") ms → true ≡ is_some o → (own : Tree) × (id_in (object (members_of ms)) ≡ Some own)
+has_id f None ms at e = cc
+has_id f (Some x) ms at e = (f x, id_of_pairs ms ∙ sym at)
+
+pub stays_told : {X : Type 0} (f : X → Tree) (o : Option X) (ms : List (List ℕ × Tree)) (s : Stream) → option_map f o ≡ member_at (codes "_id") ms → true ≡ is_some o → object (members_of ms) ≡ first_under (object (members_of ms)) s
+stays_told f o ms s at e =
+    let own = has_id f o ms at e in let d = object (members_of ms) in ap (λ (z : Option Tree). (under_next z (drawn (one_if_none z) s) d).0) (sym own.1)
+
+pub stays_drawn : {X : Type 0} (f : X → Tree) (o : Option X) (ms : List (List ℕ × Tree)) (s : Stream) → option_map f o ≡ member_at (codes "_id") ms → true ≡ is_some o → s ≡ behind_first (object (members_of ms)) s
+stays_drawn f o ms s at e = let own = has_id f o ms at e in ap (λ (z : Option Tree). after_drawing (one_if_none z) s) (sym own.1)
+
+-- it has none
+no_id : {X : Type 0} (f : X → Tree) (o : Option X) (ms : List (List ℕ × Tree)) → option_map f o ≡ member_at (codes "_id") ms → false ≡ is_some o → id_in (object (members_of ms)) ≡ None
+no_id f None ms at e = id_of_pairs ms ∙ sym at
+no_id f (Some x) ms at e = cc
+
+pub gets_told : {X : Type 0} (f : X → Tree) (o : Option X) (ms : List (List ℕ × Tree)) (s : Stream) (id : Tree) (r : Result Value TreeFault) → option_map f o ≡ member_at (codes "_id") ms → false ≡ is_some o → id ∷ [] ≡ drawn 1 s
+    → IfOk r (λ v. tree v ≡ with_id id (object (members_of ms))) → IfOk r (λ v. tree v ≡ first_under (object (members_of ms)) s)
+gets_told f o ms s id (Ok v) at e drawn_is h =
+    let d = object (members_of ms) in
+    h ∙ (ap (λ (ids : List Tree). (under_next None ids d).0) drawn_is ∙ ap (λ (z : Option Tree). (under_next z (drawn (one_if_none z) s) d).0) (sym (no_id f o ms at e)))
+gets_told f o ms s id (Err fault) at e drawn_is h = tt
+
+pub gets_drawn : {X : Type 0} (f : X → Tree) (o : Option X) (ms : List (List ℕ × Tree)) (s s' : Stream) → option_map f o ≡ member_at (codes "_id") ms → false ≡ is_some o → s' ≡ after_drawing 1 s → s' ≡ behind_first (object (members_of ms)) s
+gets_drawn f o ms s s' at e after = after ∙ ap (λ (z : Option Tree). after_drawing (one_if_none z) s) (sym (no_id f o ms at e))
+
+-- what may be inserted is an object
+pub only_objects : (t : Tree) → IsInsertable t → (ms : Members) × (t ≡ object ms)
+only_objects (object ms) h = (ms, refl)
+only_objects null h = absurd h.document.id
+only_objects (boolean b) h = absurd h.document.id
+only_objects (number n) h = absurd h.document.id
+only_objects (text t) h = absurd h.document.id
+only_objects (date d) h = absurd h.document.id
+only_objects (list ts) h = absurd h.document.id
+
 -- ---- each may be stored
 
 -- a document that may be inserted and has no id may be stored under any text of such letters
@@ -74,22 +117,6 @@ each_stored takes texts (d ∷ ds) s h = subst (Each IsStorable) (sym (under_ste
 
 -- ---- one after another: of the documents ds, those before place i are made ready, and the others stand in now
 
-tail : {A : Type 0} → List A → List A
-tail [] = []
-tail (x ∷ xs) = xs
-
-drop_suc : {A : Type 0} (i : ℕ) (xs : List A) → drop (suc i) xs ≡ tail (drop i xs)
-unfolding tail
-drop_suc zero [] = refl
-drop_suc zero (x ∷ xs) = refl
-drop_suc (suc i) [] = refl
-drop_suc (suc i) (x ∷ xs) = drop_suc i xs
-
-drop_at : {A : Type 0} (i : ℕ) (xs : List A) (x : A) → slice_get xs i ≡ Some x → drop i xs ≡ x ∷ drop (suc i) xs
-drop_at i [] x e = cc
-drop_at zero (y ∷ xs) x e = let q : y ≡ x = cc in ap (λ z. z ∷ xs) q
-drop_at (suc i) (y ∷ xs) x e = drop_at i xs x e
-
 drop_set : {A : Type 0} (i : ℕ) (xs : List A) (a : A) → drop (suc i) (slice_set xs i a) ≡ drop (suc i) xs
 drop_set i [] a = refl
 drop_set zero (x ∷ xs) a = refl
@@ -99,12 +126,6 @@ length_set : {A : Type 0} (i : ℕ) (xs : List A) (a : A) → length (slice_set 
 length_set i [] a = refl
 length_set zero (x ∷ xs) a = refl
 length_set (suc i) (x ∷ xs) a = ap (λ (n : ℕ). suc n) (length_set i xs a)
-
-drop_all : {A : Type 0} (i : ℕ) (xs : List A) → length xs ≤ i → drop i xs ≡ []
-drop_all zero [] h = refl
-drop_all (suc i) [] h = refl
-drop_all zero (x ∷ xs) h = absurd (omega arith)
-drop_all (suc i) (x ∷ xs) h = drop_all i xs (omega arith)
 
 abbrev ReadyVec : Type 0
 ReadyVec = Vec Value Global
@@ -148,10 +169,19 @@ one_ready ds s₀ i now now' s s' all more d null_tree next at set s'_is first a
     rest = drop (suc i) ds
 
     same_rest : drop (suc i) now ≡ drop (suc i) ds
-    same_rest = drop_suc i now ∙ (ap tail h.rest ∙ sym (drop_suc i ds))
+    same_rest = drop_same i now ds h.rest
 
     rest_is : drop i ds ≡ d ∷ drop (suc i) ds
     rest_is = sym h.rest ∙ (drop_at i now d at ∙ ap (λ (l : List Tree). d ∷ l) same_rest)
+
+each_at : {A : Type 0} (P : A → Type 0) (xs : List A) (i : ℕ) (x : A) → slice_get xs i ≡ Some x → Each P xs → P x
+each_at P [] i x e h = cc
+each_at P (y ∷ xs) zero x e h = let q : y ≡ x = cc in subst P q h.0
+each_at P (y ∷ xs) (suc i) x e h = each_at P xs i x e h.1
+
+-- the next one may be inserted
+pub next_insertable : (ds : List Tree) (s₀ : Stream) (i : ℕ) (now : List Tree) (s : Stream) (all : Option (Vec Value Global)) (d : Tree) → Each IsInsertable ds → slice_get now i ≡ Some d → AreReady ds s₀ i now s all → IsInsertable d
+next_insertable ds s₀ i now s all d each at h = each_at IsInsertable ds i d (sym (get_same i now ds h.rest) ∙ at) each
 
 pub all_ready : (ds : List Tree) (s₀ : Stream) (i : ℕ) (now : List Tree) (s : Stream) (all : Option (Vec Value Global)) → length ds ≤ i → AreReady ds s₀ i now s all
     → (s ≡ after_drawing (without_id ds) s₀) × IfSome all (λ v. map tree v.items ≡ under_ids (drawn (without_id ds) s₀) ds)
@@ -164,3 +194,29 @@ all_ready ds s₀ i now s all over h =
     whole : (o : Option (Vec Value Global)) → IfSome o (λ v. map tree v.items ++ [] ≡ under_ids (drawn (without_id ds) s₀) ds) → IfSome o (λ v. map tree v.items ≡ under_ids (drawn (without_id ds) s₀) ds)
     whole None t = tt
     whole (Some v) t = sym (append-nil (map tree v.items)) ∙ t
+
+-- ---- what is inserted
+
+pub length_under : (ds ids : List Tree) → length (under_ids ids ds) ≡ length ds
+length_under [] ids = refl
+length_under (d ∷ ds) ids = ap (λ (n : ℕ). suc n) (length_under ds (under_next (id_in d) ids d).1)
+
+stored_items : (vs : List Value) → Each IsStorable (map tree vs) → Each (λ d. IsStorable (tree d)) vs
+stored_items [] h = tt
+stored_items (v ∷ vs) h = (h.0, stored_items vs h.1)
+
+pub all_stored : TakesIds → AreTexts → (ds : List Tree) (s : Stream) (vs : List Value) → Each IsInsertable ds → map tree vs ≡ under_ids (drawn (without_id ds) s) ds → Each (λ d. IsStorable (tree d)) vs
+all_stored takes texts ds s vs each told = stored_items vs (subst (Each IsStorable) (sym told) (each_stored takes texts ds s each))
+
+pub as_many : (ds : List Tree) (s : Stream) (vs : List Value) → map tree vs ≡ under_ids (drawn (without_id ds) s) ds → length vs ≡ length ds
+as_many ds s vs told = sym (length-map vs tree) ∙ (ap length told ∙ length_under ds (drawn (without_id ds) s))
+
+-- one document
+pub one_told : (d : Tree) (s : Stream) (next : Result Value TreeFault) (empty : Vec Value Global) (vs : List Value) → empty.items ≡ [] → IfOk next (λ v. tree v ≡ first_under d s) → IsAdded (Some empty) next vs → map tree vs ≡ under_ids (drawn (without_id (d ∷ [])) s) (d ∷ [])
+one_told d s next empty vs none first added =
+    let first_is : tree added.value ≡ first_under d s = subst (λ (r : Result Value TreeFault). IfOk r (λ w. tree w ≡ first_under d s)) added.next_is first in
+    ap (map tree) (added.more_is ∙ ap (λ (l : List Value). l ++ added.value ∷ []) (ap (λ (v : Vec Value Global). v.items) (sym (same empty added.before added.all_is)) ∙ none))
+    ∙ (ap (λ (t : Tree). t ∷ []) first_is ∙ sym (under_step d [] s))
+  where
+    same : (a b : Vec Value Global) → ◌≡◌ {A = Option (Vec Value Global)} (Some a) (Some b) → a ≡ b
+    same a b e = cc

@@ -19,7 +19,10 @@ mod Selecting
 mod Beginnings
 mod Keys
 mod Texts
+mod Places
+mod Fronting
 mod Drawing
+mod Written
 mod Accepted
 mod Standing
 mod Running

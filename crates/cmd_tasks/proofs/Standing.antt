@@ -42,6 +42,7 @@ use Rattle.cmd_tasks.proofs.Extension.{sights_more, within_longer, places_more}
 use Rattle.cmd_tasks.proofs.Requests.{accepts, cut_off}
 use Rattle.cmd_tasks.proofs.Inserting.{inserts_accepts}
 use Rattle.cmd_tasks.proofs.Accepted.{unput_accepts}
+use Rattle.cmd_tasks.proofs.Drawing.{length_under}
 use Rattle.cmd_tasks.proofs.Turnings.{to_put}
 use Rattle.cmd_tasks.proofs.Fresh.{fresh_searching, none_first, match_none}
 use Rattle.cmd_tasks.proofs.Sessions.{sights_snoc, ordered_snoc, within_snoc, written_snoc, places-append}
@@ -138,10 +139,6 @@ stands_at_start stand from h = record {
   unput = refl;
 }
 
-length_under : (ids ds : List Tree) → length (under_ids ids ds) ≡ length ds
-length_under ids [] = refl
-length_under ids (d ∷ ds) = ap (λ (n : ℕ). suc n) (length_under _ ds)
-
 module _ (base : Base) (coll : Name) (k : ℕ) where
   one_open : (f : FilterTree) (sort : SortKeys) (doing : Doing) → IsOpenOne base coll k f sort doing []
   one_open f sort doing = (refl, omega arith, refl, match_none (first_of sort [] []) _ _ (none_first sort) (inl tt))
@@ -149,7 +146,7 @@ module _ (base : Base) (coll : Name) (k : ℕ) where
   -- a command that may be asked for isn't answered before anything was looked at
   open_at_once : (moment : ℤ) (ids : List Tree) (c : CommandTree) → IsAskable c → IsOpen base coll k (job_of moment ids c) []
   open_at_once moment ids (insert_one d) h = first_next (under_ids ids (d ∷ [])) true (omega arith)
-  open_at_once moment ids (insert_many ds ordered) h = first_next (under_ids ids ds) ordered (omega (arith, h.1, length_under ids ds))
+  open_at_once moment ids (insert_many ds ordered) h = first_next (under_ids ids ds) ordered (omega (arith, h.1, length_under ds ids))
   open_at_once moment ids (find_one f sort p) h = tt
   open_at_once moment ids (find f sort p paging) h = tt
   open_at_once moment ids (count_documents f) h = tt

@@ -3,7 +3,6 @@ use Rattle.std.specs.Prelude.{◌≡◌, ℕ, ◌+◌, ◌-◌, ◌*◌, ◌<◌
 use Rattle.std.specs.List.{AllByRecursion, list_any}
 use Rattle.std.specs.Ordering.{is_lt}
 use Rattle.json_tree.specs.Tree.{Tree}
-use Rattle.json_tree.specs.View.{tree}
 use Rattle.json_tree.specs.Id.{id_cmp}
 use Rattle.col_keeper.specs.Tables.{Name, IsShort}
 use Rattle.filter_tree.specs.Filters.{FilterTree}
@@ -39,7 +38,7 @@ use Rattle.cmd_tasks.specs.declared.work.Attempt.{Attempt}
 
 abbrev pub making_of : declared_making.Making → Making
 making_of (mk.Updates u moment) = updates u moment
-making_of (mk.Replacement document) = replaces (tree document)
+making_of (mk.Replacement document) = replaces document
 
 abbrev pub doing_of : declared_doing.Doing → Doing
 doing_of (d.Makes making up) = makes (making_of making) up

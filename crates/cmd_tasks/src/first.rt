@@ -1,5 +1,5 @@
 // The state in which each command begins, with the ids that are drawn for it.
-ghost use Rattle.std.specs.Prelude.{◌≡◌, ◌<◌, ◌≤◌, List, length, map, None, IfOk, IfSome, codes};
+ghost use Rattle.std.specs.Prelude.{◌≡◌, ◌<◌, ◌≤◌, List, [], ◌∷◌, true, length, map, None, IfOk, IfSome, codes};
 ghost use Rattle.std.specs.List.{AllByRecursion as Each};
 ghost use Rattle.json_tree.specs.Tree.{object, members_of};
 ghost use Rattle.json_tree.specs.Members.{member_at};
@@ -14,6 +14,7 @@ ghost use Rattle.cmd_tasks.specs.First.{IsAdded, HasFilter, MakesAnother, ShowsA
 
 use crate::begin::{choosing, counting, listing, making, paging_over, selecting};
 use crate::ids::{Ids, drawn_ids_are_texts};
+use crate::replacement::Replacement;
 use crate::work::{Doing, Form, Insertions, Making, State};
 use cmd_grammar::{Command, documents_take_ids};
 use json_tree::{DocId, Items, Members, ObjectBuilder, Text, TreeFault, Value};
@@ -169,12 +170,13 @@ fn showing(alloc: Global, moment: i64, command: Command, ids: &mut Ids) -> Optio
         }
         Command::FindOneAndReplace {
             filter,
-            replacement: document,
+            replacement,
             sort,
             projection,
             upsert,
             after,
         } => {
+            let document = Replacement::of_value(replacement);
             let doing = making(alloc, Making::Replacement { document }, upsert, ids)?;
             let form = Form::Shows { projection, after };
             Some(choosing(alloc, filter, sort, doing, form))

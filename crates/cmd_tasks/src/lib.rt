@@ -13,6 +13,7 @@ mod many;
 mod meeting;
 mod one;
 mod outcomes;
+mod replacement;
 mod run;
 mod search;
 mod steps;

@@ -1,5 +1,5 @@
 // Many documents: what is taken next, and the reply where nothing is.
-ghost use Rattle.std.specs.Prelude.{◌≡◌, ◌⊎◌, ℕ, ◌+◌, ◌-◌, ◌^◌, ◌<◌, ◌≤◌, min, true, false, [], Option, IfOk, IfSome};
+ghost use Rattle.std.specs.Prelude.{◌≡◌, ◌⊎◌, ℕ, ◌+◌, ◌-◌, ◌^◌, ◌<◌, ◌≤◌, min, true, false, [], Option, Some, None, IfOk, IfSome};
 ghost use Rattle.std.specs.Option.{option_map};
 ghost use Rattle.col_keeper.specs.Tables.{KeepsLimits};
 ghost use Rattle.view_sort.specs.Page.{state_text};
@@ -137,7 +137,7 @@ fn state_behind(
 /// The reply where many were updated and no more match, or some do.
 fn updated_many(alloc: Global, given: u64, stand: Stand, more: bool) -> Reply
     requires { (given < 2 ^ 63) × (stand.matched ≤ 20) }
-    ensures { (page : Option Page) → given_of page ≡ given → (result ≡ replies.UpdatedMany stand.matched stand.modified (text_behind page (tally stand) more)) ⊎ (result ≡ replies.NoMemory stand.modified) }
+    ensures { (page : Option Page) → given_of page ≡ given → (result ≡ replies.UpdatedMany stand.matched stand.modified None (text_behind page (tally stand) more)) ⊎ (result ≡ replies.NoMemory stand.modified) }
 {
     let Stand {
         from: _,

@@ -8,6 +8,7 @@ ghost use Rattle.cmd_tasks.specs.Wanted.{IsWanted};
 ghost use Rattle.cmd_tasks.specs.Searching.{IsFresh};
 
 use crate::ids::Ids;
+use crate::replacement::Replacement;
 use crate::trace::Item;
 use cmd_grammar::Command;
 use filter_plan::{Plan, Verdict, plan};
@@ -102,7 +103,7 @@ pub(crate) struct Part {
 #[derive(Drop)]
 pub(crate) enum Making {
     Updates { updates: Updates, moment: i64 },
-    Replacement { document: Value },
+    Replacement { document: Replacement },
 }
 
 /// What is done to a document that matches. Where none does, one may be inserted, for which there is an id.
