@@ -1,10 +1,9 @@
 -- Which errors a reply to a request may tell: beside lost writes and failed calls only some.
-use Rattle.std.proofs.Common.{◌≡◌, ◌⊎◌, ℕ, ◌+◌, ◌≤◌, List, [], ◌∷◌, ◌++◌, map, reverse, length, Option, Some, None, Result, Ok, Err, refl, sym, ap, subst, arith, inl, inr, length-append, Vec, Global}
+use Rattle.std.proofs.Common.{◌≡◌, ◌⊎◌, ℕ, List, [], ◌∷◌, ◌++◌, map, reverse, length, Option, Some, None, Result, Ok, Err, refl, sym, subst, inl, inr, Vec, Global}
 use Rattle.std.specs.Prelude.{MatchOption, slice_get}
 use Rattle.std.specs.List.{AllByRecursion as Each}
 use Rattle.std.specs.Option.{option_map}
 use Rattle.json_tree.specs.Tree.{Tree}
-use Rattle.outside_io.specs.Causes.{Rose}
 use Rattle.shred_cols.specs.Row.{id_of}
 use Rattle.shred_cols.specs.Rows.{first}
 use Rattle.col_keeper.specs.Tables.{Name}
@@ -21,19 +20,17 @@ use Rattle.reply_env.specs.declared.reply.Reply.{Reply}
 use Rattle.reply_env.specs.declared.reply.Reply.TheVariants as replies
 use Rattle.cmd_grammar.specs.Refused.{update_error}
 use Rattle.store_core.specs.State.{State as Base}
-use Rattle.store_core.specs.Counts.{AllBy}
 use Rattle.store_core.specs.declared.entry.Change.{Change}
-use Rattle.store_core.specs.declared.entry.Entry.{Entry}
 use Rattle.store_core.specs.declared.entry.Entry.TheVariants.{Failed}
-use Rattle.cmd_tasks.specs.Trace.{Sight, point, Found, shown}
+use Rattle.cmd_tasks.specs.Trace.{Sight, Found, shown}
 use Rattle.cmd_tasks.specs.Part.{keep_of, part_of, state_after}
 use Rattle.cmd_tasks.specs.Doing.{Doing, makes, deletes, change_of, upsert_of}
-use Rattle.cmd_tasks.specs.Jobs.{Job, Form, by_counts, shows, inserts, finds_one, finds, counts, changes_one, changes_many, creates, drops, names, job_of}
+use Rattle.cmd_tasks.specs.Jobs.{Job, Form, by_counts, shows, inserts, finds_one, finds, counts, changes_one, changes_many, creates, drops, names}
 use Rattle.cmd_tasks.specs.Insertions.{doubles, inserted, error_of_double, TellsIds, TellsInsertions}
 use Rattle.cmd_tasks.specs.Outcomes.{Outcome, put, changed, unchanged, none_found, ShowsChange, ShowsDeletion, TellsChange, TellsDeletion, Tells, TellsMet, TellsUnwritten, TellsUnput, TellsNone}
 use Rattle.cmd_tasks.specs.Taking.{Standing, Turn, looks_on, looks_again, attempts, inserts as puts, is_done, is_put, is_taken, is_refused, gives_up}
 use Rattle.cmd_tasks.specs.Turns.{Ends, so_far_of, done_reply}
-use Rattle.cmd_tasks.specs.Served.{TellsFound, TellsListed, TellsNames, losses, accepted, chosen, round, HasChange, put_last, IsFound, TellsWon, TellsPut, AnswersRounds, AnswersOne, many_standing, many_turn, IsMarked, Stops, Marks, IsToWrite, errors_before, TellsBefore, IsPartOf, IsStopped, Answers, TellsStop, Serves, sights as sights_of}
+use Rattle.cmd_tasks.specs.Served.{TellsFound, TellsListed, TellsNames, losses, accepted, chosen, round, HasChange, put_last, IsFound, TellsWon, TellsPut, AnswersRounds, AnswersOne, many_standing, many_turn, IsMarked, Stops, Marks, IsToWrite, errors_before, TellsBefore, IsPartOf, IsStopped, Answers, TellsStop, Serves}
 use Rattle.cmd_tasks.specs.Undisturbed.{TellsOnly}
 use Rattle.cmd_tasks.specs.declared.trace.Item.{Item}
 use Rattle.cmd_tasks.specs.declared.trace.Item.TheVariants.{Looked, Wrote, Lost, Faulted}

@@ -1,7 +1,6 @@
 -- A session behind whose opening nobody else wrote loses no write; and one under which the keeper's count didn't rise met no failed call.
-use Rattle.std.proofs.Common.{◌≡◌, ◌≢◌, ◌⊎◌, ℕ, ◌+◌, ◌≤◌, List, [], ◌∷◌, ◌++◌, map, drop, reverse, length, Option, None, sym, subst, ap, arith, inl, inr, length-append}
+use Rattle.std.proofs.Common.{◌≡◌, ◌≢◌, ◌⊎◌, ℕ, ◌+◌, ◌≤◌, List, [], ◌∷◌, ◌++◌, map, drop, length, None, sym, subst, ap, arith, inl, inr, length-append}
 use Rattle.std.specs.List.{AllByRecursion as Each}
-use Rattle.json_tree.specs.Tree.{Tree}
 use Rattle.name_tables.specs.declared.code.Code.TheVariants.{StoreFault, ConcurrencyFailure}
 use Rattle.outside_io.specs.Causes.{Rose}
 use Rattle.col_keeper.specs.Tables.{Name}
@@ -16,7 +15,7 @@ use Rattle.store_core.specs.declared.entry.Entry.TheVariants.{Opened}
 use Rattle.cmd_tasks.specs.Trace.{Sight, sight, point}
 use Rattle.cmd_tasks.specs.Jobs.{Job, inserts, finds_one, finds, counts, changes_one, changes_many, creates, drops, names, job_of}
 use Rattle.cmd_tasks.specs.Served.{losses, IsPartOf, Serves, sights as sights_of}
-use Rattle.cmd_tasks.specs.Session.{Exchange, Asking, asks_for, is_refused, is_unread, name_of, items, AreCounted, AreAnswered, Answered, IsAnswered, IsSession}
+use Rattle.cmd_tasks.specs.Session.{Exchange, Asking, asks_for, is_refused, is_unread, name_of, items, AreCounted, AreAnswered, Answered, IsSession}
 use Rattle.cmd_tasks.specs.Undisturbed.{TellsOnly, IsFreeOf, collection_of, IsUnlost, IsUncontested, IsNoFailedCall, IsUnfailed, BlamesItself}
 use Rattle.cmd_tasks.specs.declared.trace.Item.{Item}
 use Rattle.cmd_tasks.proofs.Calm.{IsNoFault, HasNoFault, each_front, each_rest, each_map, each_turned, faultless, opened_late, journal_rest, points_late, calm_sights, faultless_sights, behind_opening}

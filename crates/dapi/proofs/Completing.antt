@@ -1,6 +1,5 @@
 -- Where nothing stands in a run's way it ends whole, want of memory apart; and nobody disturbs its requests.
 use Rattle.std.proofs.Common.{◌≡◌, ◌≤◌, ◌^◌, ◌⊎◌, ◌++◌, ◌∷◌, [], ℕ, ℤ, List, Bool, true, false, Option, Some, None, length, sym, ◌∙◌, ap, subst, arith, inl, inr, length-append}
-use Rattle.std.specs.Option.{ForSome}
 use Rattle.std.specs.List.{AllByRecursion as Each}
 use Rattle.outside_io.specs.Causes.{Rose, Rose-earlier}
 use Rattle.outside_io.specs.Told.{Reading, Writing, then_left, IsHindered}
