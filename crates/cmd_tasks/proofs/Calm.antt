@@ -1,9 +1,9 @@
--- A session that has a history to itself behind its opening, over a keeper that doesn't fail: what its sights stand on.
+-- A session behind whose opening nobody else wrote, or no call failed: what its sights stand on.
 use Rattle.std.proofs.Common.{◌≡◌, ℕ, zero, suc, ◌+◌, ◌-◌, ◌<◌, ◌≤◌, List, [], ◌∷◌, ◌++◌, map, take, drop, reverse, length, Bool, true, false, cond, not, ◌&&◌, ◌||◌, Some, refl, sym, ap, ◌∙◌, subst, arith, inl, inr, length-take}
 use Rattle.std.specs.Prelude.{slice_get}
 use Rattle.std.specs.List.{list_any, AllByRecursion as Each}
 use Rattle.std.proofs.lemmas.Bool.{eq-eqb}
-use Rattle.std.proofs.lemmas.List.{drop-drop, reverse-append}
+use Rattle.std.proofs.lemmas.List.{drop-drop, reverse-append, reverse-reverse}
 use Rattle.std.proofs.Math.Seq.{drop-append-add}
 use Rattle.json_tree.specs.Tree.{Tree}
 use Rattle.outside_io.specs.Causes.{Rose}
@@ -45,6 +45,13 @@ each_at P x (y ∷ xs) p (zero, e) = subst P (same y x e) p.0
     same : {A : Type 0} (a b : A) → Some a ≡ Some b → a ≡ b
     same a b e = cc
 each_at P x (y ∷ xs) p (suc place, e) = each_at P x xs p.1 (place, e)
+
+pub each_map : {A B : Type 0} (f : A → B) (P : B → Type 0) (xs : List A) → Each P (map f xs) → Each (λ x. P (f x)) xs
+each_map f P [] p = tt
+each_map f P (x ∷ xs) p = (p.0, each_map f P xs p.1)
+
+pub each_turned : {A : Type 0} (P : A → Type 0) (xs : List A) → Each P (reverse xs) → Each P xs
+each_turned P xs p = subst (Each P) (reverse-reverse xs) (each_reverse P (reverse xs) p)
 
 -- ---- entries
 
@@ -100,11 +107,14 @@ journal_rest s (e ∷ before) more k j = journal_rest (after s e) before more k 
 
 -- ---- sights
 
--- at least n entries stood there; those behind the first n are by the session; and the sight is of no failed call
+-- at least n entries stood there, and those behind the first n are by the session
 pub record IsCalm (k n : ℕ) (s : Sight) : Type 0 where
   pub enough : n ≤ length s.past
   pub alone : AllBy k (drop n s.past)
-  pub faultless : (by before count : ℕ) → s.entry ≡ Some (Failed by before count) → ⊥
+
+-- its entry is no failed call
+abbrev pub HasNoFault : Sight → Type 0
+HasNoFault s = (by before count : ℕ) → s.entry ≡ Some (Failed by before count) → ⊥
 
 by_taken : (k p : ℕ) (es : List Entry) → AllBy k es → AllBy k (take p es)
 by_taken k zero es h = tt
@@ -142,24 +152,23 @@ pub points_late : (n from : ℕ) (is : List Item) → n ≤ from → AreOrdered 
 points_late n from [] l o = tt
 points_late n from (i ∷ is) l o = (omega (arith, o.0), points_late n (behind i) is (let b = point_behind i in omega (arith, o.0, b)) o.1)
 
-module _ (H : List Entry) (k n : ℕ) (enough : n ≤ length H) (by : AllBy k (drop n H)) (none : Each IsNoFault (drop n H)) where
-  calm_entry : (b : Bool) (p by before count : ℕ) → n ≤ p → entry_at H b p ≡ Some (Failed by before count) → ⊥
-  calm_entry false p by before count l e = cc
-  calm_entry true p by before count l e = no_fault_behind n p H by before count l none e
+-- what holds of each item's sight
+seen_each : (H : List Entry) (n : ℕ) (P : Sight → Type 0) → ((i : Item) → n ≤ point i → P (sight H i)) → (trace : List Item) → Each (λ i. n ≤ point i) trace → Each P (map (sight H) trace)
+seen_each H n P one [] h = tt
+seen_each H n P one (i ∷ is) h = (one i h.0, seen_each H n P one is h.1)
 
-  calm_sight : (i : Item) → n ≤ point i → IsCalm k n (sight H i)
-  calm_sight i l = record {
-    enough = let t = length-take (point i) H in omega (arith, t, l, enough);
-    alone = by_taken_behind k n (point i) H by;
-    faultless = λ by before count. calm_entry (writes i) (point i) by before count l;
-  }
+pub calm_sights : (H : List Entry) (k n : ℕ) → n ≤ length H → AllBy k (drop n H) → (trace : List Item) → Each (λ i. n ≤ point i) trace → Each (IsCalm k n) (sights H trace)
+calm_sights H k n enough by trace h = each_reverse (IsCalm k n) (map (sight H) trace) (seen_each H n (IsCalm k n) one trace h)
+  where
+    one : (i : Item) → n ≤ point i → IsCalm k n (sight H i)
+    one i l = record { enough = let t = length-take (point i) H in omega (arith, t, l, enough); alone = by_taken_behind k n (point i) H by }
 
-  calm_each : (trace : List Item) → Each (λ i. n ≤ point i) trace → Each (IsCalm k n) (map (sight H) trace)
-  calm_each [] h = tt
-  calm_each (i ∷ is) h = (calm_sight i h.0, calm_each is h.1)
-
-  pub calm_sights : (trace : List Item) → Each (λ i. n ≤ point i) trace → Each (IsCalm k n) (sights H trace)
-  calm_sights trace h = each_reverse (IsCalm k n) (map (sight H) trace) (calm_each trace h)
+pub faultless_sights : (H : List Entry) (n : ℕ) → Each IsNoFault (drop n H) → (trace : List Item) → Each (λ i. n ≤ point i) trace → Each HasNoFault (sights H trace)
+faultless_sights H n none trace h = each_reverse HasNoFault (map (sight H) trace) (seen_each H n HasNoFault (λ i l by before count e. entry (writes i) (point i) by before count l e) trace h)
+  where
+    entry : (b : Bool) (p by before count : ℕ) → n ≤ p → entry_at H b p ≡ Some (Failed by before count) → ⊥
+    entry false p by before count l e = cc
+    entry true p by before count l e = no_fault_behind n p H by before count l none e
 
 -- ---- no write is lost to another
 

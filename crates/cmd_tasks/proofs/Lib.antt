@@ -57,5 +57,7 @@ mod Retrials
 mod Fewness
 mod Calm
 mod Smooth
-mod Own
+mod Unfailed
+mod Errors
+mod Undisturbing
 mod Refusals

@@ -1,4 +1,4 @@
--- Whatever a request does next goes smoothly where nobody disturbs its session.
+-- Where nobody else wrote behind a session's opening, no write of its requests is lost to another.
 use Rattle.std.proofs.Common.{◌≡◌, ◌⊎◌, ℕ, ◌≤◌, List, [], ◌∷◌, ◌++◌, length, Bool, true, false, Option, Some, None, Result, Ok, Err, refl, sym, ap, ◌∙◌, subst, inl, inr}
 use Rattle.std.specs.Prelude.{MatchOption, nat_lt, ◌&&◌, if◌then◌else◌}
 use Rattle.std.specs.List.{AllByRecursion as Each}
@@ -20,7 +20,7 @@ use Rattle.cmd_tasks.specs.Insertions.{IsInsertion, next_document}
 use Rattle.cmd_tasks.specs.Taking.{Shown, Standing, Put, not_put, was_put, was_taken, count, is_unchanged, settled, settle, shown_with, win, lose, list_on, with_look, with_item, Turn, looks_on, looks_again, attempts, inserts as puts, is_done, is_put, is_taken, is_refused, gives_up, take_with, turn_put, turn_whole, turn_on, turn_of, turn}
 use Rattle.cmd_tasks.specs.Turns.{LooksAlone, Follows, upsert_for}
 use Rattle.cmd_tasks.specs.Served.{lost_by, losses, round, round_with, IsMark, IsMade, IsThere, IsOneTooMany, IsDropped, IsAbsent, chosen, insertion, put_last, HasChange, NextOne, many_standing, many_turn, Stops, Marks, IsToWrite, Next, IsPartOf, IsStopped}
-use Rattle.cmd_tasks.specs.Undisturbed.{IsSmoothAs, IsSmooth}
+use Rattle.cmd_tasks.specs.Undisturbed.{IsUnlostAs, IsUnlost}
 use Rattle.cmd_tasks.specs.declared.trace.Item.{Item}
 use Rattle.cmd_tasks.specs.declared.trace.Item.TheVariants.{Looked, Wrote, Lost, Faulted}
 use Rattle.cmd_tasks.proofs.Calm.{IsCalm, lost_none, each_append, each_at}
@@ -45,12 +45,12 @@ module _ (base : Base) (coll : Name) (k n : ℕ) where
   Calm sights = Each (IsCalm k n) sights
 
   abbrev pub Smooth : Sight → Type 0
-  Smooth s = IsSmooth base coll k s
+  Smooth s = IsUnlost base coll k s
 
   -- ---- one sight
 
-  smooth_as : (s : Sight) (i : Item) → s.item ≡ i → IsSmoothAs base coll k i s → Smooth s
-  smooth_as s i e h = subst (λ (j : Item). IsSmoothAs base coll k j s) (sym e) h
+  smooth_as : (s : Sight) (i : Item) → s.item ≡ i → IsUnlostAs base coll k i s → Smooth s
+  smooth_as s i e h = subst (λ (j : Item). IsUnlostAs base coll k j s) (sym e) h
 
   insertion_smooth : (d : Tree) (s : Sight) → IsInsertion base coll k d s → Smooth s
   insertion_smooth d s (inl h) = smooth_as s (Wrote (length s.past)) h.wrote.0 tt
@@ -60,7 +60,7 @@ module _ (base : Base) (coll : Name) (k n : ℕ) where
   change_smooth look x change s calm l (inl h) = smooth_as s (Wrote (length s.past)) h.wrote.0 tt
   change_smooth look x change s calm l (inr h) = absurd (lost_none base coll k n look x s calm l h)
 
-  looks_smooth : (f : FilterTree) (r : Rows) (from : Option Tree) (s : Sight) (i : Item) → Looks base coll f r from i → IsSmoothAs base coll k i s
+  looks_smooth : (f : FilterTree) (r : Rows) (from : Option Tree) (s : Sight) (i : Item) → Looks base coll f r from i → IsUnlostAs base coll k i s
   looks_smooth f r from s (Looked at after up_to shown) h = tt
   looks_smooth f r from s (Wrote at) h = absurd h
   looks_smooth f r from s (Lost at read found) h = absurd h
@@ -69,13 +69,13 @@ module _ (base : Base) (coll : Name) (k n : ℕ) where
   look_smooth : (f : FilterTree) (from : Option Tree) (s : Sight) → IsLook base coll f from s → Smooth s
   look_smooth f from s h = looks_smooth f (rows_now base coll s) from s s.item h.1
 
-  alone_smooth : (id : Tree) (xs : List Found) (s : Sight) (i : Item) → LooksAlone id xs i → IsSmoothAs base coll k i s
+  alone_smooth : (id : Tree) (xs : List Found) (s : Sight) (i : Item) → LooksAlone id xs i → IsUnlostAs base coll k i s
   alone_smooth id xs s (Looked at after up_to shown) h = tt
   alone_smooth id xs s (Wrote at) h = absurd h
   alone_smooth id xs s (Lost at read found) h = absurd h
   alone_smooth id xs s (Faulted at before count) h = absurd h
 
-  mark_smooth : (s : Sight) (i : Item) → IsMark i → IsSmoothAs base coll k i s
+  mark_smooth : (s : Sight) (i : Item) → IsMark i → IsUnlostAs base coll k i s
   mark_smooth s (Looked at after up_to shown) h = tt
   mark_smooth s (Wrote at) h = absurd h
   mark_smooth s (Lost at read found) h = absurd h
@@ -291,12 +291,12 @@ module _ (base : Base) (coll : Name) (k n : ℕ) where
   part_smooth job [] all part = tt
   part_smooth job (s ∷ earlier) all part = (next_smooth job earlier s all.1 all.0 part.0 part.2, part_smooth job earlier all.1 part.0)
 
-  stop_smooth : (marks : Option Tree → Option Tree → Type 0) (to_write : Type 0) (s : Sight) (error : ErrorItem) (i : Item) → IsCalm k n s → Stops base coll k marks to_write i s error → IsSmoothAs base coll k i s
-  stop_smooth marks to_write s error (Looked at after up_to shown) calm h = tt
-  stop_smooth marks to_write s error (Wrote at) calm h = tt
-  stop_smooth marks to_write s error (Lost at read found) calm h = absurd h
-  stop_smooth marks to_write s error (Faulted at before count) calm h = calm.faultless k before count h.0
+  stop_smooth : (marks : Option Tree → Option Tree → Type 0) (to_write : Type 0) (s : Sight) (error : ErrorItem) (i : Item) → Stops base coll k marks to_write i s error → IsUnlostAs base coll k i s
+  stop_smooth marks to_write s error (Looked at after up_to shown) h = tt
+  stop_smooth marks to_write s error (Wrote at) h = tt
+  stop_smooth marks to_write s error (Lost at read found) h = absurd h
+  stop_smooth marks to_write s error (Faulted at before count) h = tt
 
   pub stopped_smooth : (job : Job) (sights : List Sight) (error : ErrorItem) → Calm sights → IsStopped base coll k job sights error → Each Smooth sights
   stopped_smooth job [] error all h = absurd h
-  stopped_smooth job (s ∷ earlier) error all h = (stop_smooth (Marks base coll k job earlier) (IsToWrite base coll k job earlier) s error s.item all.0 h.2, part_smooth job earlier all.1 h.0)
+  stopped_smooth job (s ∷ earlier) error all h = (stop_smooth (Marks base coll k job earlier) (IsToWrite base coll k job earlier) s error s.item h.2, part_smooth job earlier all.1 h.0)

@@ -1,7 +1,8 @@
--- Requests that nobody disturbs: no call of the keeper fails under them, and no write of theirs is lost to another session.
-use Rattle.std.specs.Prelude.{◌≢◌, ℕ, List, ⊤}
+-- Requests that nobody disturbs: no write of theirs is lost to another session, and no call of the keeper fails under them.
+use Rattle.std.specs.Prelude.{◌≢◌, ℕ, List, [], ⊤}
 use Rattle.std.specs.List.{AllByRecursion as Each}
 use Rattle.json_tree.specs.Tree.{Tree}
+use Rattle.name_tables.specs.declared.code.Code.{Code}
 use Rattle.name_tables.specs.declared.code.Code.TheVariants.{StoreFault, ConcurrencyFailure}
 use Rattle.col_keeper.specs.Tables.{Name}
 use Rattle.reply_env.specs.declared.reply.ErrorItem.{ErrorItem}
@@ -16,32 +17,58 @@ use Rattle.cmd_tasks.specs.Session.{Asking, asks_for, is_refused, is_unread, nam
 use Rattle.cmd_tasks.specs.declared.trace.Item.{Item}
 use Rattle.cmd_tasks.specs.declared.trace.Item.TheVariants.{Looked, Wrote, Lost, Faulted}
 
--- the error tells neither a failed call of the keeper, nor writes that were lost to others
+-- this holds of each error of the reply
+abbrev pub TellsOnly : (ErrorItem → Type 0) → Reply → Type 0
+TellsOnly P (Refused errors so_far) = Each P errors.items
+TellsOnly P reply = ⊤
+
+-- no error of the reply has this code
+abbrev pub IsFreeOf : Code → Reply → Type 0
+IsFreeOf code reply = TellsOnly (λ e. e.code ≢ code) reply
+
+-- the collection that the request is about
+abbrev pub collection_of : Asking → Name
+collection_of (asks_for coll c) = name_of coll
+collection_of (is_refused error) = []
+collection_of is_unread = []
+
+-- ---- no write is lost
+
+module _ (base : State) (coll : Name) (k : ℕ) where
+  -- a write that wasn't accepted is the insertion of a document whose id was there
+  abbrev pub IsUnlostAs : Item → Sight → Type 0
+  IsUnlostAs (Looked at after up_to shown) s = ⊤
+  IsUnlostAs (Wrote at) s = ⊤
+  IsUnlostAs (Lost at read found) s = (d : Tree) × (tx : ℕ) × IsTaken base coll k d tx s
+  IsUnlostAs (Faulted at before count) s = ⊤
+
+  abbrev pub IsUnlost : Sight → Type 0
+  IsUnlost s = IsUnlostAs s.item s
+
+-- no write of the request was lost to another session, and its reply tells none
+abbrev pub IsUncontested : State → List Entry → ℕ → Exchange → Type 0
+IsUncontested base H k x = Each (IsUnlost base (collection_of x.asking) k) (sights H x.trace) × IsFreeOf ConcurrencyFailure x.reply
+
+-- ---- no call fails
+
+abbrev pub IsNoFailedCall : Item → Type 0
+IsNoFailedCall (Looked at after up_to shown) = ⊤
+IsNoFailedCall (Wrote at) = ⊤
+IsNoFailedCall (Lost at read found) = ⊤
+IsNoFailedCall (Faulted at before count) = ⊥
+
+-- no call of the keeper failed under the request, and its reply tells none
+abbrev pub IsUnfailed : Exchange → Type 0
+IsUnfailed x = Each IsNoFailedCall x.trace × IsFreeOf StoreFault x.reply
+
+-- ---- requests that are refused by themselves
+
+-- the error tells neither
 abbrev pub IsOwn : ErrorItem → Type 0
 IsOwn error = (error.code ≢ StoreFault) × (error.code ≢ ConcurrencyFailure)
 
--- nor does any error of the reply
-abbrev pub TellsOwn : Reply → Type 0
-TellsOwn (Refused errors so_far) = Each IsOwn errors.items
-TellsOwn reply = ⊤
-
-module _ (base : State) (coll : Name) (k : ℕ) where
-  -- it is no failed call; a write that wasn't accepted is the insertion of a document whose id was there
-  abbrev pub IsSmoothAs : Item → Sight → Type 0
-  IsSmoothAs (Looked at after up_to shown) s = ⊤
-  IsSmoothAs (Wrote at) s = ⊤
-  IsSmoothAs (Lost at read found) s = (d : Tree) × (tx : ℕ) × IsTaken base coll k d tx s
-  IsSmoothAs (Faulted at before count) s = ⊥
-
-  abbrev pub IsSmooth : Sight → Type 0
-  IsSmooth s = IsSmoothAs s.item s
-
--- So is all that the request saw and did, and so is its reply. The reply to one that is refused by itself tells no more than
--- that error does.
-abbrev pub Undisturbed : State → List Entry → ℕ → Asking → List Item → Reply → Type 0
-Undisturbed base H k (asks_for coll c) trace reply = Each (IsSmooth base (name_of coll) k) (sights H trace) × TellsOwn reply
-Undisturbed base H k (is_refused error) trace reply = IsOwn error → TellsOwn reply
-Undisturbed base H k is_unread trace reply = TellsOwn reply
-
-abbrev pub IsUndisturbed : State → List Entry → ℕ → Exchange → Type 0
-IsUndisturbed base H k x = Undisturbed base H k x.asking x.trace x.reply
+-- the request isn't refused by itself, or by such an error
+abbrev pub BlamesItself : Asking → Type 0
+BlamesItself (asks_for coll c) = ⊤
+BlamesItself (is_refused error) = IsOwn error
+BlamesItself is_unread = ⊤

@@ -22,7 +22,7 @@ ghost use Rattle.view_sort.specs.declared.page.PageState.{PageState};
 ghost use Rattle.cmd_grammar.specs.Commands.{CommandTree, Shows, command_tree, update_many, delete_many};
 ghost use Rattle.cmd_tasks.specs.Served.{IsServed, sights};
 ghost use Rattle.cmd_tasks.specs.Session.{Exchange, IsSession, IsAnswered, AreCounted, AreSessions, AreWithin, NoWork, Records};
-ghost use Rattle.cmd_tasks.specs.Undisturbed.{IsOwn, IsUndisturbed};
+ghost use Rattle.cmd_tasks.specs.Undisturbed.{IsUncontested, IsUnfailed, IsOwn, BlamesItself};
 ghost use Rattle.cmd_tasks.specs.Joined.{Page, IdsAreTold, ArePages, ShowEachOnce};
 ghost use Rattle.cmd_tasks.specs.Doing.{makes, updates, deletes};
 ghost use Rattle.cmd_tasks.specs.Jobs.{upsert_id};
@@ -111,12 +111,18 @@ pub fn each_match_is_counted()
         → Each (λ c. ascends c.rows ≡ true) base.collections → IsServed base history coll k moment ids (delete_many f) trace reply → AreTaken base coll k f deletes None (sights history trace) reply }
 {}
 
-/// Nobody disturbs a session's requests where all entries behind its opening are by it, and the keeper's count of faults doesn't
-/// rise: no call of the keeper fails under them, no write of theirs is lost to another session, and no reply tells of either. A
-/// write of theirs that isn't accepted is the insertion of a document whose id is there.
-pub fn a_session_alone_is_undisturbed()
-    ensures { (base : Base) (before more : List Journaled) (k low high : ℕ) (exchanges : List Exchange) → AllBy k more → AreCounted low high more → (Rose low high → ⊥)
-        → IsSession base (before ++ Opened k ∷ more) k exchanges → Each (IsUndisturbed base (before ++ Opened k ∷ more) k) exchanges }
+/// No write of a session is lost to another where all entries behind its opening are by it: a write that isn't accepted is the
+/// insertion of a document whose id is there, and no reply tells lost writes.
+pub fn a_session_alone_loses_nothing()
+    ensures { (base : Base) (before more : List Journaled) (k : ℕ) (exchanges : List Exchange) → AllBy k more → Each (λ x. BlamesItself x.asking) exchanges
+        → IsSession base (before ++ Opened k ∷ more) k exchanges → Each (IsUncontested base (before ++ Opened k ∷ more) k) exchanges }
+{}
+
+/// Where the keeper's count of faults doesn't rise behind a session's opening, no call of it fails under the session's requests,
+/// and no reply tells one, whatever others write.
+pub fn a_count_that_stays_has_no_fault()
+    ensures { (base : Base) (before more : List Journaled) (k low high : ℕ) (exchanges : List Exchange) → AreCounted low high more → (Rose low high → ⊥) → Each (λ x. BlamesItself x.asking) exchanges
+        → IsSession base (before ++ Opened k ∷ more) k exchanges → Each IsUnfailed exchanges }
 {}
 
 /// A request that is refused by itself is refused by an error of its own: it tells neither a failed call of the keeper nor a

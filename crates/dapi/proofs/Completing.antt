@@ -1,6 +1,5 @@
--- Where nothing stands in a run's way it ends whole, want of memory apart; and where no call of its keeper failed, nobody disturbed its requests.
+-- Where nothing stands in a run's way it ends whole, want of memory apart; and nobody disturbs its requests.
 use Rattle.std.proofs.Common.{◌≡◌, ◌≤◌, ◌^◌, ◌⊎◌, ◌++◌, ◌∷◌, [], ℕ, ℤ, List, Bool, true, false, Option, Some, None, length, sym, ◌∙◌, ap, subst, arith, inl, inr, length-append}
-use Rattle.std.specs.Option.{ForSome}
 use Rattle.std.specs.List.{AllByRecursion as Each}
 use Rattle.outside_io.specs.Causes.{Rose, Rose-earlier}
 use Rattle.outside_io.specs.Told.{Reading, Writing, then_left, IsHindered}
@@ -14,12 +13,10 @@ use Rattle.store_core.specs.declared.entry.Entry.TheVariants.{Opened}
 use Rattle.store_core.specs.declared.open.OpenFault.{OpenFault}
 use Rattle.store_core.specs.declared.open.OpenFault.TheVariants as opens
 use Rattle.reply_env.specs.declared.reply.ErrorItem.{ErrorItem}
-use Rattle.reply_env.specs.declared.reply.Reply.{Reply}
 use Rattle.reply_env.specs.declared.request.Request.{Request}
 use Rattle.cmd_grammar.specs.Requests.{IsRefused}
 use Rattle.cmd_tasks.specs.Session.{Asking, asks_for, is_refused, is_unread, Exchange, IsSession, AreCounted}
-use Rattle.cmd_tasks.specs.Undisturbed.{IsOwn, TellsOwn, Undisturbed, IsUndisturbed}
-use Rattle.cmd_tasks.specs.declared.trace.Item.{Item}
+use Rattle.cmd_tasks.specs.Undisturbed.{IsUncontested, IsUnfailed, IsOwn, BlamesItself}
 use Rattle.api_serve.specs.Answered.{IsAskedBy}
 use Rattle.api_serve.specs.Session.{AreAsked}
 use Rattle.api_serve.specs.Lines.{HasLines}
@@ -39,9 +36,13 @@ use Rattle.dapi.proofs.Choosing.{same_collections}
 abbrev pub LinesAreOne : Type 0
 LinesAreOne = (input : List ℕ) (lines others : List (List ℕ)) → HasLines input lines → HasLines input others → lines ≡ others
 
-abbrev pub AloneIsUndisturbed : Type 0
-AloneIsUndisturbed = (base : State) (before more : List Entry) (k low high : ℕ) (exchanges : List Exchange) → AllBy k more → AreCounted low high more → (Rose low high → ⊥)
-    → IsSession base (before ++ Opened k ∷ more) k exchanges → Each (IsUndisturbed base (before ++ Opened k ∷ more) k) exchanges
+abbrev pub AloneLosesNothing : Type 0
+AloneLosesNothing = (base : State) (before more : List Entry) (k : ℕ) (exchanges : List Exchange) → AllBy k more → Each (λ x. BlamesItself x.asking) exchanges
+    → IsSession base (before ++ Opened k ∷ more) k exchanges → Each (IsUncontested base (before ++ Opened k ∷ more) k) exchanges
+
+abbrev pub StillHasNoFault : Type 0
+StillHasNoFault = (base : State) (before more : List Entry) (k low high : ℕ) (exchanges : List Exchange) → AreCounted low high more → (Rose low high → ⊥) → Each (λ x. BlamesItself x.asking) exchanges
+    → IsSession base (before ++ Opened k ∷ more) k exchanges → Each IsUnfailed exchanges
 
 abbrev pub RefusalsAreOwn : Type 0
 RefusalsAreOwn = (keyspace : List ℕ) (request : Request) (error : ErrorItem) → IsRefused keyspace request error → IsOwn error
@@ -59,17 +60,16 @@ hindered_so : (before after : Writing) (b a : ℕ) (nothing : Bool) → IsWriteF
 hindered_so before after b a false h = inl (Rose-earlier before.failed b after.failed h.0 (subst (Rose b) h.2 h.1))
 hindered_so before after b a true h = inr h.1
 
--- the replies to undisturbed requests tell nothing but what is their own
-module _ (refusals : RefusalsAreOwn) (keyspace : List ℕ) (base : State) (H : List Entry) (k : ℕ) where
-  own_one : (request : Request) (trace : List Item) (reply : Reply) (asking : Asking) → IsAskedBy keyspace request asking → Undisturbed base H k asking trace reply → TellsOwn reply
-  own_one request trace reply (asks_for coll c) asked u = u.1
-  own_one request trace reply (is_refused error) asked u = u (refusals keyspace request error asked)
-  own_one request trace reply is_unread asked u = u
+-- requests that are refused by themselves are refused by errors of their own
+own_one : RefusalsAreOwn → (keyspace : List ℕ) (request : Request) (asking : Asking) → IsAskedBy keyspace request asking → BlamesItself asking
+own_one law keyspace request (asks_for coll c) asked = tt
+own_one law keyspace request (is_refused error) asked = law keyspace request error asked
+own_one law keyspace request is_unread asked = tt
 
-  own_each : (requests : List Request) (xs : List Exchange) → AreAsked keyspace requests xs → Each (IsUndisturbed base H k) xs → Each (λ x. TellsOwn x.reply) xs
-  own_each requests [] asked u = tt
-  own_each [] (x ∷ xs) asked u = absurd asked
-  own_each (request ∷ requests) (x ∷ xs) asked u = (own_one request x.trace x.reply x.asking asked.0 u.0, own_each requests xs asked.1 u.1)
+own_each : RefusalsAreOwn → (keyspace : List ℕ) (requests : List Request) (xs : List Exchange) → AreAsked keyspace requests xs → Each (λ x. BlamesItself x.asking) xs
+own_each law keyspace requests [] asked = tt
+own_each law keyspace [] (x ∷ xs) asked = absurd asked
+own_each law keyspace (request ∷ requests) (x ∷ xs) asked = (own_one law keyspace request x.asking asked.0, own_each law keyspace requests xs asked.1)
 
 module _ {K : Type 0} (tables : K → Option Tables) (failed : K → ℕ) (words : List (List ℕ)) (given kept : K) (from to : Reading) (before after : Writing) where
   -- ---- where nothing stands in the way
@@ -108,21 +108,22 @@ module _ {K : Type 0} (tables : K → Option Tables) (failed : K → ℕ) (words
       absurd (omega (arith, few, over.0))
   unopened_complete u keyspace collections status asked (opens.NoMemory keeper) is back refuses = inr is
 
-  -- ---- where no call of the keeper failed
+  -- ---- nobody disturbs a request
 
-  pub run_undisturbed : AloneIsUndisturbed → RefusalsAreOwn → (seed : List ℕ) (times : Option (List ℤ)) → Runs tables failed words given kept seed times (λ Served. ServesInput Served from to before after) → (Rose (failed given) (failed kept) → ⊥)
-      → RunsUndisturbed tables failed words given kept from to before after seed times
-  run_undisturbed law refusals seed times run still =
-      let s = run.ended.served in record {
-        run = run;
-        undisturbed = calm;
-        own = λ base told. own_each refusals run.keyspace base run.history s.number s.requests s.exchanges s.asked (calm base told);
-      }
-    where
-      calm : ForSome run.start (λ base. Each (IsUndisturbed base run.history run.ended.served.number) run.ended.served.exchanges)
-      calm base told =
-          let s = run.ended.served in
-          let journal : run.history ≡ Opened s.number ∷ s.more = s.journal in
-          subst (λ (H : List Entry). Each (IsUndisturbed base H s.number) s.exchanges) (sym journal)
-          (law base [] s.more s.number run.count (failed kept) s.exchanges s.alone s.counted (λ rose. still (Rose-earlier (failed given) run.count (failed kept) run.counts rose))
-          (subst (λ (H : List Entry). IsSession base H s.number s.exchanges) journal (s.session base told)))
+  module _ (alone : AloneLosesNothing) (still : StillHasNoFault) (refusals : RefusalsAreOwn) (seed : List ℕ) (times : Option (List ℤ)) (run : Runs tables failed words given kept seed times (λ Served. ServesInput Served from to before after)) where
+    own : Each (λ x. BlamesItself x.asking) run.ended.served.exchanges
+    own = own_each refusals run.keyspace run.ended.served.requests run.ended.served.exchanges run.ended.served.asked
+
+    history_is : run.history ≡ Opened run.ended.served.number ∷ run.ended.served.more
+    history_is = run.ended.served.journal
+
+    session : (base : State) → run.start ≡ Some base → IsSession base (Opened run.ended.served.number ∷ run.ended.served.more) run.ended.served.number run.ended.served.exchanges
+    session base told = subst (λ (H : List Entry). IsSession base H run.ended.served.number run.ended.served.exchanges) history_is (run.ended.served.session base told)
+
+    pub run_undisturbed : RunsUndisturbed tables failed words given kept from to before after seed times
+    run_undisturbed =
+        let s = run.ended.served in record {
+          run = run;
+          uncontested = λ base told. subst (λ (H : List Entry). Each (IsUncontested base H s.number) s.exchanges) (sym history_is) (alone base [] s.more s.number s.exchanges s.alone own (session base told));
+          unfailed = λ quiet base told. still base [] s.more s.number run.count (failed kept) s.exchanges s.counted (λ rose. quiet (Rose-earlier (failed given) run.count (failed kept) run.counts rose)) own (session base told);
+        }

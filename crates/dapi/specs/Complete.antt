@@ -6,7 +6,7 @@ use Rattle.outside_io.specs.Causes.{Rose}
 use Rattle.outside_io.specs.Told.{Reading, Writing, IsHindered}
 use Rattle.col_keeper.specs.Tables.{Tables}
 use Rattle.store_core.specs.Opening.{would_live}
-use Rattle.cmd_tasks.specs.Undisturbed.{TellsOwn, IsUndisturbed}
+use Rattle.cmd_tasks.specs.Undisturbed.{IsUncontested, IsUnfailed}
 use Rattle.api_serve.specs.Lines.{HasLines}
 use Rattle.api_serve.specs.Request.{AreRightLines}
 use Rattle.api_serve.specs.Run.{ServesInput}
@@ -34,9 +34,9 @@ module _ {K : Type 0} (tables : K → Option Tables) (failed : K → ℕ) (words
     pub sink : IsHindered before after → ⊥
     pub keeper : Rose (failed given) (failed kept) → ⊥
 
-  -- Every line was read, its request served, and its reply written, as of any run that ends so. Nobody disturbed a request: no
-  -- call of the keeper failed under it, no write of it was lost to another session, and no reply tells of either.
+  -- Every line was read, its request served, and its reply written, as of any run that ends so. No write of a request was lost to
+  -- another session; and where no call of the keeper failed in the whole run, none did under a request. No reply tells otherwise.
   pub record RunsUndisturbed (seed : List ℕ) (times : Option (List ℤ)) : Type 0 where
     pub run : Runs tables failed words given kept seed times (λ Served. ServesInput Served from to before after)
-    pub undisturbed : ForSome run.start (λ base. Each (IsUndisturbed base run.history run.ended.served.number) run.ended.served.exchanges)
-    pub own : ForSome run.start (λ base. Each (λ x. TellsOwn x.reply) run.ended.served.exchanges)
+    pub uncontested : ForSome run.start (λ base. Each (IsUncontested base run.history run.ended.served.number) run.ended.served.exchanges)
+    pub unfailed : (Rose (failed given) (failed kept) → ⊥) → ForSome run.start (λ base. Each IsUnfailed run.ended.served.exchanges)

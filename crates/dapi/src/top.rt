@@ -16,7 +16,9 @@ ghost use Rattle.dapi.specs.Ended.{EndsStore};
 use crate::note::{note_of, status_of, word_note, word_status, write_note};
 use crate::words::{WordFault, read};
 use api_serve::{RunEnd, RunHow, an_input_has_one_list_of_lines, run_lines};
-use cmd_tasks::{a_refused_request_blames_itself, a_session_alone_is_undisturbed};
+use cmd_tasks::{
+    a_count_that_stays_has_no_fault, a_refused_request_blames_itself, a_session_alone_loses_nothing,
+};
 use col_keeper::Keeper;
 use outside_io::{Clock, Sink, Source};
 use std::alloc::Global;
@@ -100,8 +102,8 @@ pub fn dapi<S: Source, W: Sink, E: Sink, K: Keeper, C: Clock>(
     ensures answered { result.0 ≡ 0 → Runs K.tables K.failed (map string_bytes words.now) keeper result.1 seed.now (C.times clock.old)
         (λ Served. ServesInput Served (S.reading source.old) (S.reading source.new) (W.writing sink.old) (W.writing sink.new)) }
 
-    // Where no call of the keeper failed, nobody disturbed a request: no write of it was lost to another session either, and no reply tells of a failed call or a lost write.
-    ensures undisturbed { result.0 ≡ 0 → (Rose (K.failed keeper) (K.failed result.1) → ⊥) → RunsUndisturbed K.tables K.failed (map string_bytes words.now) keeper result.1
+    // Nobody disturbed a request: no reply tells lost writes, nor a failed call where the keeper's count of faults didn't rise.
+    ensures undisturbed { result.0 ≡ 0 → RunsUndisturbed K.tables K.failed (map string_bytes words.now) keeper result.1
         (S.reading source.old) (S.reading source.new) (W.writing sink.old) (W.writing sink.new) seed.now (C.times clock.old) }
 
     // Where nothing stands in the way, all is read and written, or memory ran out.
@@ -158,7 +160,8 @@ pub fn dapi<S: Source, W: Sink, E: Sink, K: Keeper, C: Clock>(
     match Store::open(alloc, keeper, job.collections.as_slice()) {
         Ok(store) => {
             an_input_has_one_list_of_lines();
-            a_session_alone_is_undisturbed();
+            a_session_alone_loses_nothing();
+            a_count_that_stays_has_no_fault();
             a_refused_request_blames_itself();
             run_store(
                 alloc,

@@ -21,10 +21,11 @@ returns-in-Ok-open-clause-answered g c = let ran = c.run_store.ensures.ran in le
 
 pub returns-in-Ok-open-clause-undisturbed : goal.returns-in-Ok-open-clause-undisturbed
 returns-in-Ok-open-clause-undisturbed g c = let ran = c.run_store.ensures.ran in let opened = c.in-Ok-open.ensures in
-    λ e still. run_undisturbed g.K.Keeper.tables g.K.Keeper.failed (map string_bytes c.args.words.now) c.args.keeper c.run_store.result.1 _ _ _ _ c.a_session_alone_is_undisturbed.ensures c.a_refused_request_blames_itself.ensures c.args.seed.now (g.C.Clock.times c.args.clock.now)
+    λ e. run_undisturbed g.K.Keeper.tables g.K.Keeper.failed (map string_bytes c.args.words.now) c.args.keeper c.run_store.result.1 _ _ _ _ c.a_session_alone_loses_nothing.ensures c.a_count_that_stays_has_no_fault.ensures c.a_refused_request_blames_itself.ensures
+    c.args.seed.now (g.C.Clock.times c.args.clock.now)
     (ran_whole g.K.Keeper.tables g.K.Keeper.failed (map string_bytes c.args.words.now) c.args.keeper c.run_store.result.1 c.text.result.now c.args.seed.now c.as_slice.result.now c.in-Ok-open.store (g.C.Clock.times c.args.clock.now)
     (asked_as _ c.in-Ok.job.keyspace c.text.result.now c.in-Ok.job.collections.items c.as_slice.result.now c.text.ensures.value c.as_slice.ensures.value c.in-Ok.ensures.ok) opened.begins opened.tables opened.start opened.first opened.faults
-    c.args.source.now c.run_store.new.source c.args.sink.now c.run_store.new.sink _ _ _ _ c.run_store.result.0 ran.0 ran.1 ran.3 e) still
+    c.args.source.now c.run_store.new.source c.args.sink.now c.run_store.new.sink _ _ _ _ c.run_store.result.0 ran.0 ran.1 ran.3 e)
 
 pub returns-in-Ok-open-clause-complete : goal.returns-in-Ok-open-clause-complete
 returns-in-Ok-open-clause-complete g c = let ran = c.run_store.ensures.ran in
