@@ -1,6 +1,6 @@
-use Rattle.std.proofs.Common.{◌≡◌, ◌++◌, ◌∷◌, [], ℕ, Some, Option, refl, sym, ◌∙◌, subst, inr, append-nil}
+use Rattle.std.proofs.Common.{◌≡◌, ◌++◌, ◌∷◌, [], ℕ, Some, refl, sym, ◌∙◌, subst, inr, append-nil}
 use Rattle.reply_env.specs.Messages as errors
-use Rattle.cmd_tasks.specs.Inserting.{HasMore, InsertsOn, InsertsMore}
+use Rattle.cmd_tasks.specs.Inserting.{HasMore, InsertsMore}
 use Rattle.cmd_tasks.specs.declared.work.Insertions.{Insertions}
 use Rattle.cmd_tasks.specs.declared.trace.Item.TheVariants.{Lost}
 use Rattle.cmd_tasks.proofs.insertions.doubled.Goals as goal
@@ -19,4 +19,4 @@ returns c = λ tx e.
       errors_are = c.in-Some-with_error.ensures (errors.already_exists c.args.id.now c.in-Some.tx) c.already_exists.ensures;
     } in
     inr (subst (λ (n : ℕ). InsertsMore c.args.insertions [] (errors.already_exists c.args.id.now n ∷ []) (Lost c.args.at 0 (Some n)) c.go_on.result) (same_some _ _ (sym c.in-Some.is ∙ e))
-    (more, has, subst (λ (f : Option ℕ). InsertsOn more (Lost c.args.at 0 f) c.go_on.result) c.in-Some.is c.go_on.ensures))
+    (more, has, c.go_on.ensures))
