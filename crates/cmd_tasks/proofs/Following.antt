@@ -1,5 +1,5 @@
 -- How a command that takes many documents goes on behind an item, or stops there.
-use Rattle.std.proofs.Common.{◌≡◌, ◌⊎◌, ℕ, List, ◌∷◌, false, Option, sym, ap, ◌∙◌, subst, inl, inr, ⊎_elim}
+use Rattle.std.proofs.Common.{◌≡◌, ◌⊎◌, ℕ, List, ◌∷◌, false, Option, Some, sym, ap, ◌∙◌, subst, inl, inr, ⊎_elim}
 use Rattle.std.specs.Prelude.{IfSome}
 use Rattle.json_tree.specs.Tree.{Tree}
 use Rattle.col_keeper.specs.Tables.{Name}

@@ -94,7 +94,7 @@ module _ (base : Base) (coll : Name) (k : ℕ) (many : Many) (stand : Stand) (do
       (λ (e : reply ≡ NoMemory 0). inr (inr (inl whole, e ∙ ap NoMemory (let a = accepted_none in let b = ap one_if_wrote t.item in omega (arith, a, b)))))
       refuses
     where
-      abbrev p : Put
+      p : Put
       p = was_taken (Some tx)
 
       whole : IsPartOf base coll k job (s ∷ earlier)

@@ -202,7 +202,7 @@ module _ (base : State) (coll : Name) (k : ℕ) (f : FilterTree) (doing : Doing)
           wrote = ap one_if_wrote won.wrote.0;
         }))))
         (λ (lost : IsLost base coll k first.look first.x s).
-        let loss = record { read = first.x.tx; found = lost.found } in
+        let loss : Loss = record { read = first.x.tx; found = lost.found } in
         let is : new ≡ lose loss (first ∷ rest) st = ap (λ i. with_item base coll f doing i s st) lost.item ∙ ap (λ q. lose loss q st) queue in
         inr (inr (inr (inl (record {
           first_time = first_time;

@@ -1,5 +1,7 @@
-use Rattle.std.proofs.Common.{rules, ◌∙◌, Some, refl, sym, inl, inr, arith}
+use Rattle.std.proofs.Common.{rules, ◌≡◌, ◌∙◌, ℕ, List, Some, refl, sym, subst, inl, inr, arith}
+use Rattle.std.specs.Prelude.{IfOk}
 use Rattle.reply_env.specs.Messages as errors
+use Rattle.reply_env.specs.declared.reply.ErrorItem.{ErrorItem}
 use Rattle.cmd_tasks.specs.Looking.{Refuses}
 use Rattle.cmd_tasks.specs.declared.work.State.TheVariants.{Trying}
 use Rattle.cmd_tasks.proofs.Glances.{wrote_here}
@@ -55,17 +57,19 @@ returns-in-Lost-clause-leads g c = λ base told_base trace placed way.
 
 pub returns-in-NoCollection-clause-steps : goal.returns-in-NoCollection-clause-steps
 returns-in-NoCollection-clause-steps g c =
+    let gone = subst (λ (n : List ℕ). IfOk c.no_collection-error.result (λ (e : ErrorItem). e ≡ errors.no_collection n)) c.text.ensures.value c.no_collection-error.ensures in
     let told = c.in-NoCollection.ensures.answers in
     ended_steps c.args.by _ _ _ _ (Trying c.args.many c.args.stand c.args.attempt) c.args.many.doing c.args.stand c.marked.result c.ends_after.result
-    (marked_steps c.args.by _ _ _ _ (Trying c.args.many c.args.stand c.args.attempt) c.in-NoCollection.at (Some c.in-Ok.ends.after) (Some c.in-Ok.ends.up_to) (Refuses (errors.no_collection c.args.coll.now)) c.marked.result told.0.1 told.0.0 (c.marked.ensures (errors.no_collection c.args.coll.now) (search rules))) c.ends_after.ensures
+    (marked_steps c.args.by _ _ _ _ (Trying c.args.many c.args.stand c.args.attempt) c.in-NoCollection.at (Some c.in-Ok.ends.after) (Some c.in-Ok.ends.up_to) (Refuses (errors.no_collection c.args.coll.now)) c.marked.result told.0.1 told.0.0 (c.marked.ensures (errors.no_collection c.args.coll.now) gone)) c.ends_after.ensures
 
 pub returns-in-NoCollection-clause-leads : goal.returns-in-NoCollection-clause-leads
 returns-in-NoCollection-clause-leads g c = λ base told_base trace placed way.
+    let gone = subst (λ (n : List ℕ). IfOk c.no_collection-error.result (λ (e : ErrorItem). e ≡ errors.no_collection n)) c.text.ensures.value c.no_collection-error.ensures in
     let told = c.in-NoCollection.ensures.answers in
     let lawful = c.journal_len.ensures.lawful base told_base in
     try_marked base c.args.coll.now c.args.by c.args.many c.args.stand c.args.attempt c.requires.ready.2 c.args.store.now.journal trace placed lawful.0 (c.journal_len.ensures.apart base told_base) way
     c.write.new.self.journal c.in-NoCollection.at c.in-Ok.ends.after c.in-Ok.ends.up_to (errors.no_collection c.args.coll.now) c.marked.result c.ends_after.result c.in-Ok.ensures.0 c.in-Ok.ensures.1 told.0.1 told.0.0
-    (inr ((λ e. gone_not_spent _ _ (c.in-NoCollection.ensures.spent (sym (c.journal_len.ensures.next base told_base) ∙ e))), told.1 base told_base, refl)) (c.marked.ensures (errors.no_collection c.args.coll.now) (search rules)) c.ends_after.ensures
+    (inr ((λ e. gone_not_spent _ _ (c.in-NoCollection.ensures.spent (sym (c.journal_len.ensures.next base told_base) ∙ e))), told.1 base told_base, refl)) (c.marked.ensures (errors.no_collection c.args.coll.now) gone) c.ends_after.ensures
 
 pub returns-in-VersionsSpent-clause-steps : goal.returns-in-VersionsSpent-clause-steps
 returns-in-VersionsSpent-clause-steps g c =
