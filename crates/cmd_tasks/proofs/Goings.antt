@@ -1,10 +1,9 @@
 -- How a command that takes many documents goes on from what is taken next, and what its reply tells.
 use Rattle.std.proofs.Common.{◌≡◌, ◌≢◌, ◌⊎◌, ℕ, ◌<◌, ◌≤◌, List, [], ◌∷◌, map, reverse, length, Bool, true, false, Option, Some, None, Result, Ok, Err, refl, sym, ap, ◌∙◌, subst, arith, inl, inr, ⊎_elim}
-use Rattle.std.specs.Prelude.{nat_lt, is_none, if◌then◌else◌}
+use Rattle.std.specs.Prelude.{nat_lt, if◌then◌else◌}
 use Rattle.std.proofs.lemmas.List.{length-map, length-reverse}
 use Rattle.json_tree.specs.Tree.{Tree}
 use Rattle.shred_cols.specs.Row.{Version}
-use Rattle.filter_tree.specs.Filters.{FilterTree}
 use Rattle.update_ops.specs.declared.fault.UpdateFault.{UpdateFault}
 use Rattle.update_ops.specs.declared.fault.UpdateFault.TheVariants as faults
 use Rattle.view_sort.specs.declared.page.PageState.{PageState}
@@ -16,9 +15,9 @@ use Rattle.reply_env.specs.declared.reply.Reply.TheVariants.{UpdatedMany, Delete
 use Rattle.cmd_grammar.specs.Refused.{update_error}
 use Rattle.cmd_tasks.specs.Pages.{found_row}
 use Rattle.cmd_tasks.specs.Looking.{Refuses}
-use Rattle.cmd_tasks.specs.Doing.{Doing, makes, deletes, upsert_of}
+use Rattle.cmd_tasks.specs.Doing.{Doing, makes, deletes}
 use Rattle.cmd_tasks.specs.Taking.{Shown, Standing, Turn, inserts, is_done, is_refused, turn}
-use Rattle.cmd_tasks.specs.Turns.{so_far_of, state_behind, upsert_for, done_reply, Ends}
+use Rattle.cmd_tasks.specs.Turns.{so_far_of, state_behind, done_reply, Ends}
 use Rattle.cmd_tasks.specs.Many.{doing_of, put_for, IsStanding}
 use Rattle.cmd_tasks.specs.Going.{Settles, IsRefused, TurnsDown, tally, GoesOnFrom, RefusesAfter}
 use Rattle.cmd_tasks.specs.declared.work.Many as declared_many
@@ -27,7 +26,7 @@ use Rattle.cmd_tasks.specs.declared.work.State.TheVariants.{Paging}
 use Rattle.cmd_tasks.specs.declared.work.Moved.TheVariants as m
 use Rattle.cmd_tasks.specs.declared.taking.Settled.TheVariants as s
 use Rattle.cmd_tasks.specs.declared.trace.Item.{Item}
-use Rattle.cmd_tasks.proofs.Turnings.{IsAtEnd, full_turn, refused_turn, counted_turn, unput_turn, inserts_turn, unmade_turn}
+use Rattle.cmd_tasks.proofs.Turnings.{IsAtEnd, full_turn, refused_turn, inserts_turn, unmade_turn}
 
 -- ---- the same is told of the same counts
 
@@ -56,9 +55,9 @@ none_of (x ∷ xs) e = absurd (omega arith)
 abbrev pub TellsDone : declared_many.Many → Stand → Bool → Reply → Type 0
 TellsDone many stand more reply = (reply ≡ done_reply (doing_of many.doing) many.page.value (tally stand) more) ⊎ (reply ≡ NoMemory stand.modified)
 
-ends_with : (many : declared_many.Many) (item : Item) (stand : Stand) (st : Standing) (waiting : List Shown) (more : Bool) (reply : Reply) → turn (put_for many) (doing_of many.doing) st ≡ is_done more → IsStanding stand st waiting
+ends_with : (many : declared_many.Many) (item : Item) (stand : Stand) (st : Standing) (more : Bool) (reply : Reply) → turn (put_for many) (doing_of many.doing) st ≡ is_done more → IsStanding stand st st.queue
     → TellsDone many stand more reply → GoesOnFrom many item st (m.Ends item reply)
-ends_with many item stand st waiting more reply is h told = (
+ends_with many item stand st more reply is h told = (
   refl,
   ⊎_elim
       (λ (e : reply ≡ done_reply (doing_of many.doing) many.page.value (tally stand) more). inl (subst (λ (z : Turn). Ends (doing_of many.doing) many.page.value st z reply) (sym is) (e ∙ done_same (doing_of many.doing) many.page.value (tally stand) st more h.matched h.modified h.last)))
@@ -73,7 +72,7 @@ more_ends many item stand reply some told st h = go st.queue refl
   where
     go : (q : List Shown) → st.queue ≡ q → GoesOnFrom many item st (m.Ends item reply)
     go [] e = absurd (let n = as_many stand.queue.items st.queue h.0.queue in let l = ap length e in omega arith)
-    go (t ∷ rest) e = ends_with many item stand st st.queue true reply
+    go (t ∷ rest) e = ends_with many item stand st true reply
         (full_turn (put_for many) (doing_of many.doing) st t rest h.1 e (⊎_elim (λ (none : st.queue ≡ []). absurd (let n = as_many stand.queue.items st.queue h.0.queue in let l = ap length none in omega arith)) (λ (full : 20 ≤ st.matched). full) h.2)) h.0 told
 
 -- ---- none wait
@@ -90,36 +89,19 @@ lists_on many item stand none more st h =
     let empty = empty_waiting stand st none h.0 in
     (refl, (refl, empty, sym h.0.is_whole ∙ more, emptied stand st empty h.0))
 
--- a document is inserted on the first page alone
-pub first_puts : (f : FilterTree) (doing : Doing) (page : Option PageState) → is_none page ≡ true → upsert_for f doing page ≡ upsert_of f doing
-first_puts f doing None first = refl
-first_puts f doing (Some p) first = cc
+-- all was listed, and none was counted
+module _ (many : declared_many.Many) (stand : Stand) (st : Standing) (h : IsStanding stand st []) (queue : st.queue ≡ []) (first : st.again ≡ false) (whole : st.is_whole ≡ true) (none : stand.matched ≡ 0) where
+  at_end : IsAtEnd st
+  at_end = record { first_time = first; queue = queue; whole = whole; none = sym h.matched ∙ none }
 
-pub later_puts_none : (f : FilterTree) (doing : Doing) (page : Option PageState) → is_none page ≡ false → upsert_for f doing page ≡ None
-later_puts_none f doing None later = cc
-later_puts_none f doing (Some p) later = refl
+  pub puts_next : (d : Tree) → put_for many ≡ Some (Ok d) → turn (put_for many) (doing_of many.doing) st ≡ inserts d
+  puts_next d due = inserts_turn (put_for many) (doing_of many.doing) st d at_end h.unput due
 
--- all was listed
-module _ (many : declared_many.Many) (item : Item) (stand : Stand) (st : Standing) (h : IsStanding stand st []) (queue : st.queue ≡ []) (first : st.again ≡ false) (whole : st.is_whole ≡ true) where
-  pub counted_ends : (reply : Reply) → 0 < stand.matched → TellsDone many stand false reply → GoesOnFrom many item st (m.Ends item reply)
-  counted_ends reply some told = ends_with many item stand st [] false reply (counted_turn (put_for many) (doing_of many.doing) st first queue whole (let e = h.matched in omega arith)) h told
-
-  -- and none was counted
-  module _ (none : stand.matched ≡ 0) where
-    at_end : IsAtEnd st
-    at_end = record { first_time = first; queue = queue; whole = whole; none = sym h.matched ∙ none }
-
-    pub none_put : (reply : Reply) → put_for many ≡ None → TellsDone many stand false reply → GoesOnFrom many item st (m.Ends item reply)
-    none_put reply due told = ends_with many item stand st [] false reply (unput_turn (put_for many) (doing_of many.doing) st at_end h.unput due) h told
-
-    pub puts_next : (d : Tree) → put_for many ≡ Some (Ok d) → turn (put_for many) (doing_of many.doing) st ≡ inserts d
-    puts_next d due = inserts_turn (put_for many) (doing_of many.doing) st d at_end h.unput due
-
-    pub turns_down : (fault : UpdateFault) → (fault ≡ faults.NoMemory) ⊎ (put_for many ≡ Some (Err fault)) → TurnsDown many stand fault st
-    turns_down fault z = ⊎_elim
-        (λ (cut : fault ≡ faults.NoMemory). inl (cut, h.modified))
-        (λ (due : put_for many ≡ Some (Err fault)). inr (unmade_turn (put_for many) (doing_of many.doing) st fault at_end h.unput due, h.matched, h.modified))
-        z
+  pub turns_down : (fault : UpdateFault) → (fault ≡ faults.NoMemory) ⊎ (put_for many ≡ Some (Err fault)) → TurnsDown many stand fault st
+  turns_down fault z = ⊎_elim
+      (λ (cut : fault ≡ faults.NoMemory). inl (cut, h.modified))
+      (λ (due : put_for many ≡ Some (Err fault)). inr (unmade_turn (put_for many) (doing_of many.doing) st fault at_end h.unput due, h.matched, h.modified))
+      z
 
 -- ---- a change or an insertion is refused
 

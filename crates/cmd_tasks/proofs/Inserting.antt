@@ -1,5 +1,5 @@
 -- Insertions of the documents of a request: how a step goes on with them, or answers it.
-use Rattle.std.proofs.Common.{◌≡◌, ℕ, ◌+◌, ◌<◌, ◌≤◌, List, [], ◌∷◌, ◌++◌, map, take, drop, reverse, length, Bool, true, false, Option, Some, None, refl, sym, ap, ap₂, ◌∙◌, subst, arith, inl, inr, ◌⊎◌, ⊎_elim, length-append}
+use Rattle.std.proofs.Common.{◌≡◌, ℕ, ◌+◌, ◌<◌, ◌≤◌, List, [], ◌∷◌, ◌++◌, map, take, drop, reverse, length, Bool, true, false, Option, Some, None, refl, sym, ap, ap₂, ◌∙◌, subst, arith, inl, inr, ◌⊎◌, ⊎_elim, length-append, Vec, Global}
 use Rattle.std.specs.Prelude.{⊤, ◌&&◌, if◌then◌else◌, MatchOption, IsSome, slice_get}
 use Rattle.std.specs.List.{AllByRecursion as Each}
 use Rattle.std.proofs.lemmas.List.{length-map, length-reverse, map-append, reverse-append, take-append-drop, take-append-le}
@@ -74,6 +74,10 @@ left_first left all v last =
     let xs : List Value = left ++ v ∷ [] in
     let a = length-append left (v ∷ []) in
     sym (ap (take (length left)) (split_at xs all last) ∙ (take-append-le (length left) xs (drop (length xs) all) (omega arith) ∙ take-append_seam left (v ∷ [])))
+
+-- room for more changes nothing
+pub with_room : (i : Insertions) (d : Tree) (rest : Insertions) (ids : Vec Tree Global) → ids.items ≡ rest.ids.items → IsNextOf i d rest → IsNextOf i d (record rest { ids = ids })
+with_room i d rest ids same next = record { v = next.v; left = next.left; document = next.document; all = next.all; ordered = next.ordered; ids = same ∙ next.ids; errors = next.errors }
 
 -- ---- what comes next
 

@@ -1,18 +1,18 @@
 -- Whether a document is inserted next, by what the present round has found.
-use Rattle.std.proofs.Common.{◌≡◌, ℕ, ◌<◌, ◌≤◌, List, [], ◌∷◌, length, Bool, true, false, ◌&&◌, Option, Some, None, refl, sym, ap, ◌∙◌, subst, arith, ⊎_elim}
+use Rattle.std.proofs.Common.{◌≡◌, ℕ, ◌<◌, ◌≤◌, List, [], ◌∷◌, length, Bool, true, false, ◌&&◌, Option, Some, None, refl, sym, ap, ◌∙◌, arith, ⊎_elim}
 use Rattle.std.specs.Prelude.{is_none, nat_lt, if◌then◌else◌}
-use Rattle.std.specs.Ordering.{is_gt}
+use Rattle.std.specs.Ordering.{is_gt, on}
 use Rattle.std.specs.declared.cmp.Ordering.{Ordering}
-use Rattle.std.proofs.lemmas.Bool.{ltb-false, le-ltb, lt-ltb}
+use Rattle.std.proofs.lemmas.Bool.{le-ltb, lt-ltb}
 use Rattle.json_tree.specs.Tree.{Tree}
 use Rattle.shred_cols.specs.Rows.{first}
 use Rattle.sqlite_keyed.specs.Lists.{insert_sorted, sort_by}
 use Rattle.col_keeper.specs.Tables.{Name}
 use Rattle.filter_tree.specs.Filters.{FilterTree}
-use Rattle.view_sort.specs.Sort.{SortKeys}
+use Rattle.view_sort.specs.Sort.{SortKeys, found_cmp}
 use Rattle.store_core.specs.State.{State as Base}
 use Rattle.cmd_tasks.specs.Trace.{Sight, Found, end_of, shown, rows_now, GoesOn, IsListed}
-use Rattle.cmd_tasks.specs.Searches.{bound, is_too_many, is_whole, in_order, first_of}
+use Rattle.cmd_tasks.specs.Searches.{bound, is_whole, stored, in_order, first_of}
 use Rattle.cmd_tasks.specs.Doing.{Doing, upsert_of}
 use Rattle.cmd_tasks.specs.Outcomes.{ready}
 use Rattle.cmd_tasks.specs.Served.{chosen, insertion, round}
@@ -40,7 +40,7 @@ first_inserted cmp new (x ∷ xs) e = elim (is_gt (cmp new x)) as (λ b. first (
 none_in_order : (sort : SortKeys) (xs : List Found) → first (in_order sort xs) ≡ None → xs ≡ []
 none_in_order sort [] e = refl
 none_in_order [] (x ∷ xs) e = cc
-none_in_order (key ∷ keys) (x ∷ xs) e = absurd (first_inserted _ x (sort_by _ xs) e)
+none_in_order (key ∷ keys) (x ∷ xs) e = let cmp : Found → Found → Ordering = on stored (found_cmp (key ∷ keys)) in absurd (first_inserted cmp x (sort_by cmp xs) e)
 
 one_at_least : (sort : SortKeys) → 1 ≤ bound sort 1
 one_at_least [] = omega arith

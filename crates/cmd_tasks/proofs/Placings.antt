@@ -1,5 +1,5 @@
 -- The insertion of a document where a command for one has found none.
-use Rattle.std.proofs.Common.{◌≡◌, ◌⊎◌, ℕ, List, [], ◌∷◌, Option, Some, None, refl, sym, ap, ◌∙◌, subst, arith, inl, inr, ⊎_elim}
+use Rattle.std.proofs.Common.{◌≡◌, ◌⊎◌, ℕ, List, ◌∷◌, sym, ap, subst, arith, inl, inr, ⊎_elim}
 use Rattle.std.specs.Prelude.{⊤}
 use Rattle.json_tree.specs.Tree.{Tree}
 use Rattle.shred_cols.specs.Row.{id_of}
@@ -7,7 +7,6 @@ use Rattle.col_keeper.specs.Tables.{Name}
 use Rattle.filter_tree.specs.Filters.{FilterTree}
 use Rattle.filter_tree.specs.View.{filter_tree}
 use Rattle.reply_env.specs.Messages as errors
-use Rattle.reply_env.specs.Reply.{IsRefusal}
 use Rattle.reply_env.specs.declared.reply.ErrorItem.{ErrorItem}
 use Rattle.reply_env.specs.declared.reply.Reply.{Reply}
 use Rattle.store_core.specs.State.{State as Base}
@@ -17,8 +16,7 @@ use Rattle.cmd_tasks.specs.Trace.{Sight, sight}
 use Rattle.cmd_tasks.specs.Doing.{Doing}
 use Rattle.cmd_tasks.specs.Jobs.{Form}
 use Rattle.cmd_tasks.specs.Insertions.{IsInserted, IsTaken, IsInsertion}
-use Rattle.cmd_tasks.specs.Outcomes.{put, Tells}
-use Rattle.cmd_tasks.specs.Served.{IsPartOf, AnswersOne, TellsPut, Serves, Stops, Marks, IsToWrite, chosen, insertion, put_last, accepted, one_if_wrote}
+use Rattle.cmd_tasks.specs.Served.{IsPartOf, AnswersOne, TellsPut, Serves, Stops, Marks, IsToWrite, chosen, insertion, put_last, one_if_wrote}
 use Rattle.cmd_tasks.specs.Looking.{Refuses}
 use Rattle.cmd_tasks.specs.Puts.{Puts, MarksPut, EndsPut}
 use Rattle.cmd_tasks.specs.Many.{doing_of, form_of}

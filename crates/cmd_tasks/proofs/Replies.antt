@@ -1,5 +1,5 @@
 -- What a reply tells of a document that is met, and of it that none is found.
-use Rattle.std.proofs.Common.{◌≡◌, ◌≢◌, ◌⊎◌, Option, Some, None, Result, Ok, Err, refl, sym, subst, inl, inr, ⊎_elim}
+use Rattle.std.proofs.Common.{◌≡◌, ◌≢◌, ◌⊎◌, Option, Some, None, Result, Ok, Err, sym, subst, inl, inr, ⊎_elim}
 use Rattle.json_tree.specs.Tree.{Tree}
 use Rattle.filter_tree.specs.Filters.{FilterTree}
 use Rattle.update_ops.specs.declared.fault.UpdateFault.{UpdateFault}
@@ -10,9 +10,9 @@ use Rattle.reply_env.specs.declared.reply.Reply.{Reply}
 use Rattle.reply_env.specs.declared.reply.Reply.TheVariants.{NoMemory}
 use Rattle.store_core.specs.declared.entry.Change.{Change}
 use Rattle.store_core.specs.declared.entry.Change.TheVariants.{Delete}
-use Rattle.cmd_tasks.specs.Doing.{Making, Doing, makes, deletes, change_of, upsert_of}
+use Rattle.cmd_tasks.specs.Doing.{Doing, makes, deletes, change_of, upsert_of}
 use Rattle.cmd_tasks.specs.Jobs.{Form}
-use Rattle.cmd_tasks.specs.Outcomes.{none_found, unchanged, put, TellsChange, Tells, TellsMet, TellsUnwritten, TellsUnput, TellsNone, ready}
+use Rattle.cmd_tasks.specs.Outcomes.{unchanged, put, TellsChange, Tells, TellsMet, TellsUnwritten, TellsUnput, TellsNone, ready}
 use Rattle.cmd_tasks.specs.Looking.{Refuses}
 use Rattle.cmd_tasks.proofs.Goings.{cases_fault}
 
@@ -46,9 +46,6 @@ inserts_none d e = cc
 pub put_told : (f : FilterTree) (doing : Doing) (form : Form) (d : Tree) (r : Reply) → ready (upsert_of f doing) ≡ Some d → TellsChange form (put d) r → Tells doing form (put d) r
 put_told f (makes making up) form d r e told = told
 put_told f deletes form d r e told = absurd (inserts_none d e)
-
-pub none_told : (f : FilterTree) (doing : Doing) (form : Form) (r : Reply) → upsert_of f doing ≡ None → Tells doing form none_found r → TellsNone f doing form r
-none_told f doing form r e told = subst (λ (z : Option (Result Tree UpdateFault)). TellsUnput doing form z r) (sym e) told
 
 pub unput_told : (f : FilterTree) (doing : Doing) (form : Form) (r : Reply) (fault : UpdateFault) → (fault ≡ faults.NoMemory) ⊎ (upsert_of f doing ≡ Some (Err fault)) → (fault ≡ faults.NoMemory → r ≡ NoMemory 0) → (fault ≢ faults.NoMemory → Refuses (update_error fault) r)
     → TellsNone f doing form r ⊎ (r ≡ NoMemory 0)

@@ -10,7 +10,7 @@ use Rattle.store_core.specs.declared.entry.Entry.{Entry}
 use Rattle.store_core.specs.declared.entry.Entry.TheVariants.{Created, Dropped}
 use Rattle.cmd_tasks.specs.Trace.{Sight, sight}
 use Rattle.cmd_tasks.specs.Jobs.{creates, drops, names}
-use Rattle.cmd_tasks.specs.Served.{IsPartOf, Serves, IsMark, IsMade, IsDropped, TellsNames, accepted, one_if_wrote}
+use Rattle.cmd_tasks.specs.Served.{IsPartOf, Serves, IsMark, IsMade, IsThere, IsOneTooMany, IsDropped, IsAbsent, TellsNames, accepted, one_if_wrote}
 use Rattle.cmd_tasks.specs.Looking.{IsLooked, Refuses}
 use Rattle.cmd_tasks.specs.Moves.{IsBegun}
 use Rattle.cmd_tasks.specs.declared.trace.Item.{Item}
@@ -54,13 +54,13 @@ module _ (base : Base) (coll : Name) (k : ℕ) (earlier : List Sight) (H H' : Li
 
   pub there_serves : (item : Item) → IsBegun base coll k creates earlier → H' ≡ H → at ≡ length H → IsLooked item at None None [] → Lives coll (replay base H) → Serves base coll k creates (sight H' item ∷ earlier) Done
   there_serves item begun same here is lives =
-      let there = (is_mark at item is, at_mark item (Lives coll) same here is lives) in
+      let there : IsThere base coll k (sight H' item) = (is_mark at item is, at_mark item (Lives coll) same here is lives) in
       inl ((begun.0, begun.1, inr (inl there)), inl (inr there, refl))
 
   pub many_serves : (item : Item) (reply : Reply) → IsBegun base coll k creates earlier → H' ≡ H → at ≡ length H → IsLooked item at None None [] → IsGone coll (replay base H) → 100 ≤ length (replay base H).collections
       → Refuses errors.too_many_collections reply → Serves base coll k creates (sight H' item ∷ earlier) reply
   many_serves item reply begun same here is gone many refuses =
-      let too = (is_mark at item is, at_mark item (IsGone coll) same here is gone, at_mark item (λ s. 100 ≤ length s.collections) same here is many) in
+      let too : IsOneTooMany base coll k (sight H' item) = (is_mark at item is, at_mark item (IsGone coll) same here is gone, at_mark item (λ s. 100 ≤ length s.collections) same here is many) in
       answered base coll k creates (sight H' item ∷ earlier) reply _ (begun.0, begun.1, inr (inr too)) (none_accepted item is begun.1) (λ r. inr (too, r)) refuses
 
   -- ---- deletions
@@ -72,7 +72,7 @@ module _ (base : Base) (coll : Name) (k : ℕ) (earlier : List Sight) (H H' : Li
 
   pub absent_serves : (item : Item) → IsBegun base coll k drops earlier → H' ≡ H → at ≡ length H → IsLooked item at None None [] → IsGone coll (replay base H) → Serves base coll k drops (sight H' item ∷ earlier) Done
   absent_serves item begun same here is gone =
-      let absent = (is_mark at item is, at_mark item (IsGone coll) same here is gone) in
+      let absent : IsAbsent base coll k (sight H' item) = (is_mark at item is, at_mark item (IsGone coll) same here is gone) in
       inl ((begun.0, begun.1, inr absent), (inr absent, refl))
 
   -- ---- names

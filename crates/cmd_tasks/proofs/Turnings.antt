@@ -56,9 +56,6 @@ module _ (up : Option (Result Tree UpdateFault)) (doing : Doing) (st : Standing)
   pub paging_turn : st.again ≡ false → st.queue ≡ [] → st.is_whole ≡ false → next ≡ looks_on st.from
   paging_turn first e unended = end_turn false first e unended
 
-  pub counted_turn : st.again ≡ false → st.queue ≡ [] → st.is_whole ≡ true → 0 < st.matched → next ≡ is_done false
-  counted_turn first e whole some = end_turn true first e whole ∙ ap (λ (b : Bool). if b then is_done false else turn_put st.put up) (lt-ltb 0 st.matched some)
-
   put_turn : (p : Put) → IsAtEnd st → st.put ≡ p → next ≡ turn_put p up
   put_turn p is e =
       end_turn true is.first_time is.queue is.whole
@@ -66,9 +63,6 @@ module _ (up : Option (Result Tree UpdateFault)) (doing : Doing) (st : Standing)
 
   by_due : (p : Put) (o : Option (Result Tree UpdateFault)) → IsAtEnd st → st.put ≡ p → up ≡ o → next ≡ turn_put p o
   by_due p o is e due = put_turn p is e ∙ ap (turn_put p) due
-
-  pub unput_turn : IsAtEnd st → st.put ≡ not_put → up ≡ None → next ≡ is_done false
-  unput_turn is e due = by_due not_put None is e due
 
   pub inserts_turn : (d : Tree) → IsAtEnd st → st.put ≡ not_put → up ≡ Some (Ok d) → next ≡ inserts d
   inserts_turn d is e due = by_due not_put (Some (Ok d)) is e due

@@ -17,7 +17,6 @@ use Rattle.cmd_tasks.specs.Searching.{IsFresh}
 use Rattle.cmd_tasks.specs.declared.work.Attempt.{Attempt}
 use Rattle.cmd_tasks.specs.declared.work.One.{One}
 use Rattle.cmd_tasks.specs.declared.work.Progress.{Progress}
-use Rattle.cmd_tasks.specs.declared.work.State.{State}
 use Rattle.cmd_tasks.specs.declared.work.State.TheVariants.{Choosing, Changing, Putting}
 use Rattle.cmd_tasks.specs.declared.work.Moved.{Moved}
 use Rattle.cmd_tasks.specs.declared.work.Moved.TheVariants as m

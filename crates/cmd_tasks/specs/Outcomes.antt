@@ -1,9 +1,8 @@
 -- What became of the one document that a command asked for, and how its reply tells it.
-use Rattle.std.specs.Prelude.{◌≡◌, ◌⊎◌, ℕ, List, [], Bool, true, false, Option, Some, None, Result, Ok, Err, if◌then◌else◌}
+use Rattle.std.specs.Prelude.{◌≡◌, ℕ, Bool, Option, Some, None, Result, Ok, Err, if◌then◌else◌}
 use Rattle.std.specs.Option.{option_map}
 use Rattle.json_tree.specs.Tree.{Tree}
 use Rattle.json_tree.specs.View.{tree}
-use Rattle.json_tree.specs.declared.value.Value.{Value}
 use Rattle.shred_cols.specs.Row.{id_of}
 use Rattle.filter_tree.specs.Filters.{FilterTree}
 use Rattle.update_ops.specs.declared.fault.UpdateFault.{UpdateFault}

@@ -44,6 +44,14 @@ fn taken(alloc: Global, at: u64, found: Option<u64>, id: &DocId) -> Moved
     }
 }
 
+/// A document's id.
+fn key_of(alloc: Global, doc: &Doc) -> Result<DocId, TreeFault>
+    ensures { IfOk result (λ key. key ≡ id_of doc.now) }
+{
+    let key = doc.id().try_copy(alloc)?;
+    Ok(key)
+}
+
 /// The insertion of a document of which the reply is at hand.
 pub(crate) fn put_in_place<K: Keeper>(
     alloc: Global,
@@ -66,7 +74,7 @@ pub(crate) fn put_in_place<K: Keeper>(
     limits_bound_ids();
     store.journal_len();
     doc.value();
-    let Ok(key) = doc.id().try_copy(alloc) else {
+    let Ok(key) = key_of(alloc, &doc) else {
         return Moved::NoMemory;
     };
     let Ok(ends) = ends_of(alloc, &key) else {
@@ -245,7 +253,7 @@ fn prepared(alloc: Global, document: Value) -> Result<Insertion, TreeFault>
     ensures { IfOk result (λ next. (next.doc ≡ tree document) × (next.key ≡ id_of next.doc)) }
 {
     let doc = Doc::of_value(alloc, document)?;
-    let key = doc.id().try_copy(alloc)?;
+    let key = key_of(alloc, &doc)?;
     Ok(Insertion { doc, key })
 }
 

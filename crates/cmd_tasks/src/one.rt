@@ -253,7 +253,13 @@ pub(crate) fn change<K: Keeper>(
         },
         WriteOutcome::Lost { at, found } => lost_to(alloc, at, one, read, found),
         WriteOutcome::NoCollection { at } => {
-            marked(alloc, at, ends.after, ends.up_to, no_collection(alloc, coll.text()))
+            marked(
+                alloc,
+                at,
+                ends.after,
+                ends.up_to,
+                no_collection(alloc, coll.text()),
+            )
         }
         WriteOutcome::VersionsSpent { at } => {
             marked(alloc, at, ends.after, ends.up_to, versions_spent(alloc))

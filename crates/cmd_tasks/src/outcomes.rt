@@ -15,11 +15,7 @@ use store_core::Change;
 use view_sort::{Projection, ViewFault};
 
 /// The document as it is shown.
-fn view_of(
-    alloc: Global,
-    projection: &Projection,
-    doc: &Doc,
-) -> Result<Option<Value>, ViewFault>
+fn view_of(alloc: Global, projection: &Projection, doc: &Doc) -> Result<Option<Value>, ViewFault>
     ensures { IfOk result (λ shown. option_map tree shown ≡ Some (view projection.now doc.now)) }
 {
     match projection.apply(alloc, doc) {
@@ -112,12 +108,7 @@ fn view_of_changed(
 }
 
 /// The reply that another document was made of the one that was found.
-fn tell_made(
-    alloc: Global,
-    form: &Form,
-    old: &Doc,
-    change: &Change,
-) -> Result<Reply, ViewFault>
+fn tell_made(alloc: Global, form: &Form, old: &Doc, change: &Change) -> Result<Reply, ViewFault>
     ensures { IfOk result (TellsChange (form_of form.now) (changed change.now old.now)) }
 {
     match form {
@@ -141,12 +132,7 @@ fn tell_made(
 }
 
 /// The reply that the document that was found was deleted.
-fn tell_deleted(
-    alloc: Global,
-    form: &Form,
-    old: &Doc,
-    change: &Change,
-) -> Result<Reply, ViewFault>
+fn tell_deleted(alloc: Global, form: &Form, old: &Doc, change: &Change) -> Result<Reply, ViewFault>
     ensures { IfOk result (TellsDeletion (form_of form.now) (changed change.now old.now)) }
 {
     match form {

@@ -1,7 +1,7 @@
-use Rattle.std.proofs.Common.{refl, inl}
+use Rattle.std.proofs.Common.{refl}
 use Rattle.filter_tree.specs.View.{filter_tree}
 use Rattle.cmd_tasks.specs.Many.{doing_of, form_of}
-use Rattle.cmd_tasks.proofs.Replies.{none_told, unput_told}
+use Rattle.cmd_tasks.proofs.Replies.{unput_told}
 use Rattle.cmd_tasks.proofs.one.missed.Goals as goal
 
 pub returns-in-Err : goal.returns-in-Err

@@ -17,3 +17,6 @@ pub returns-clause-told : goal.returns-clause-told
 returns-clause-told c =
     let none : length c.args.stand.queue.items ≡ 0 = search rules in
     lists_on c.args.many c.args.item c.args.stand none c.if-stand.false
+
+pub returns-then-stand-clause-ready : goal.returns-then-stand-clause-ready
+returns-then-stand-clause-ready c = c.ended.ensures.ready c.args.stand
