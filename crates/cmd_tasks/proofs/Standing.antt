@@ -1,5 +1,5 @@
 -- A step of a task, and the entries of others between two steps, keep where it stands.
-use Rattle.std.proofs.Common.{◌≡◌, ℕ, ℤ, zero, suc, ◌+◌, ◌<◌, ◌≤◌, List, [], ◌∷◌, ◌++◌, map, drop, reverse, length, Bool, true, false, Option, Some, None, refl, sym, ap, ◌∙◌, subst, arith, inl, length-append, Vec, Global}
+use Rattle.std.proofs.Common.{◌≡◌, ℕ, ℤ, zero, suc, ◌+◌, ◌<◌, ◌≤◌, List, [], ◌∷◌, ◌++◌, map, drop, reverse, length, Bool, true, false, Option, Some, None, refl, sym, ap, ◌∙◌, subst, arith, inl, length-append, length-drop, Vec, Global}
 use Rattle.std.specs.Prelude.{IfSome, IsSome, slice_get}
 use Rattle.std.specs.Option.{ForSome, option_map}
 use Rattle.std.proofs.lemmas.List.{length-map, length-reverse}
@@ -19,8 +19,8 @@ use Rattle.cmd_tasks.specs.Trace.{Sight, sight, point, IsWithin}
 use Rattle.cmd_tasks.specs.Searches.{first_of}
 use Rattle.cmd_tasks.specs.Part.{from_of}
 use Rattle.cmd_tasks.specs.Pages.{found_row}
-use Rattle.cmd_tasks.specs.Doing.{Doing}
-use Rattle.cmd_tasks.specs.Jobs.{Job, finds_one, finds, counts, under_ids, job_of}
+use Rattle.cmd_tasks.specs.Doing.{Doing, updates, replaces, makes, deletes}
+use Rattle.cmd_tasks.specs.Jobs.{Job, finds_one, finds, counts, under_ids, upsert_id, job_of}
 use Rattle.cmd_tasks.specs.Insertions.{next_document}
 use Rattle.cmd_tasks.specs.Taking.{not_put, at_start}
 use Rattle.cmd_tasks.specs.Served.{IsOpen, IsOpenOne, IsPartOf, Serves, IsServed, accepted, sights}
@@ -150,13 +150,13 @@ module _ (base : Base) (coll : Name) (k : ℕ) where
   open_at_once moment ids (find_one f sort p) h = tt
   open_at_once moment ids (find f sort p paging) h = tt
   open_at_once moment ids (count_documents f) h = tt
-  open_at_once moment ids (update_one f u sort upsert) h = one_open f sort _
+  open_at_once moment ids (update_one f u sort upsert) h = one_open f sort (makes (updates u moment) (upsert_id upsert ids))
   open_at_once moment ids (update_many f u upsert page) h = tt
-  open_at_once moment ids (delete_one f sort) h = one_open f sort _
+  open_at_once moment ids (delete_one f sort) h = one_open f sort deletes
   open_at_once moment ids (delete_many f) h = tt
-  open_at_once moment ids (find_one_and_update f u sort p upsert after) h = one_open f sort _
-  open_at_once moment ids (find_one_and_replace f r sort p upsert after) h = one_open f sort _
-  open_at_once moment ids (find_one_and_delete f sort p) h = one_open f sort _
+  open_at_once moment ids (find_one_and_update f u sort p upsert after) h = one_open f sort (makes (updates u moment) (upsert_id upsert ids))
+  open_at_once moment ids (find_one_and_replace f r sort p upsert after) h = one_open f sort (makes (replaces r) (upsert_id upsert ids))
+  open_at_once moment ids (find_one_and_delete f sort p) h = one_open f sort deletes
   open_at_once moment ids (create_collection name) h = refl
   open_at_once moment ids find_collections h = refl
   open_at_once moment ids (delete_collection name) h = refl
