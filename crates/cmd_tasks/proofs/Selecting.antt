@@ -89,7 +89,7 @@ module _ (base : Base) (coll : Name) (k : ℕ) where
 
       select_whole : (item : Item) (p' : Progress) (reply : Reply) → Seeks base coll None search k H' earlier (r.Whole item p') → Finds (option_map (λ (v : Version). view shows v.doc) (first p'.kept.items)) reply
           → Serves base coll k (finds_one f search.sort shows) (sight H' item ∷ earlier) reply
-      select_whole item p' reply h finds =
+      select_whole item p' reply h told =
           let sights : List Sight = sight H' item ∷ earlier in
           let xs = in_order search.sort (shown base coll f sights) in
           let part : IsPartOf base coll k (finds_one f search.sort shows) sights = (way.0.0, way.0.1, h.0) in
@@ -97,7 +97,7 @@ module _ (base : Base) (coll : Name) (k : ℕ) where
           ap (option_map (λ (x : Found). view shows x.doc)) (first_kept p'.kept.items xs (h.1.kept ∙ ap (λ (n : ℕ). take n xs) one)) ∙ shown_first shows (first p'.kept.items) in
           let ended = subst (λ (n : ℕ). IsEndedBy n sights) one h.2 in
           answered base coll k (finds_one f search.sort shows) sights reply _ part (find_one_accepts base coll k f search.sort shows sights part)
-          (λ t. (ended, inr (h.3, subst (λ (d : Option Tree). TellsFound d reply) (sym is) t))) finds
+          (λ t. (ended, inr (h.3, subst (λ (d : Option Tree). TellsFound d reply) (sym is) t))) told
 
       pub select_ended : (item : Item) (p' : Progress) (o : Moved) → Seeks base coll None search k H' earlier (r.Whole item p') → EndsSo item (Finds (option_map (λ (v : Version). view shows v.doc) (first p'.kept.items))) o
           → Leads base coll k H' (Selecting search p shows) earlier o

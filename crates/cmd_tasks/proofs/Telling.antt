@@ -188,13 +188,13 @@ module _ (base : State) (coll : Name) (k : ℕ) (f : FilterTree) (doing : Doing)
       taken_told : (error : ErrorItem) (reply : Reply) → st.matched ≡ 0 → IsRefusal error reply → TellsSo None doing reply
       taken_told error reply none h = refused doing error reply (subst (λ (o : Option SoFar). IsRefusalAfter o error reply) (sym (ap (λ n. if nat_lt 0 n then Some (counts_of doing st) else None) (none_changed none))) h)
 
+      abbrev IsTold : Reply → Type 0
+      IsTold r = TellsSo None doing r
+
       -- the reply that belongs to where the command ends, where nothing was inserted
       ends : NeedsWrite st → st.put ≡ not_put → (reply : Reply) → Ends doing page st (turn up doing st) reply → TellsSo None doing reply
       ends needs unput reply h = by_again st.again refl h
         where
-          abbrev IsTold : Reply → Type 0
-          IsTold r = TellsSo None doing r
-
           by_losses : (b : Bool) (q : Shown) → Ends doing page st (if b then looks_again q.x.id else gives_up) reply → IsTold reply
           by_losses true q h = absurd h
           by_losses false q h = refused doing _ reply h

@@ -21,14 +21,14 @@ ghost use Rattle.update_ops.specs.Clauses.{Clause};
 ghost use Rattle.view_sort.specs.declared.page.PageState.{PageState};
 ghost use Rattle.cmd_grammar.specs.Commands.{CommandTree, Shows, command_tree, update_many, delete_many};
 ghost use Rattle.cmd_tasks.specs.Served.{IsServed, sights};
-ghost use Rattle.cmd_tasks.specs.Session.{Exchange, IsSession, IsAnswered, AreCounted, AreSessions, AreWithin, NoWork, Records};
+ghost use Rattle.cmd_tasks.specs.Session.{Exchange, IsSession, IsAnswered, AreCounted, AreSessions, AreWithin, NoWork, Records, name_of};
 ghost use Rattle.cmd_tasks.specs.Undisturbed.{IsUncontested, IsUnfailed, IsOwn, BlamesItself};
 ghost use Rattle.cmd_tasks.specs.Joined.{Page, IdsAreTold, ArePages, ShowEachOnce};
 ghost use Rattle.cmd_tasks.specs.Doing.{makes, updates, deletes};
 ghost use Rattle.cmd_tasks.specs.Jobs.{upsert_id};
 ghost use Rattle.cmd_tasks.specs.Tally.{AreTaken};
 ghost use Rattle.cmd_tasks.specs.Moves.{accepted_by};
-ghost use Rattle.cmd_tasks.specs.Stands.{StandsOn};
+ghost use Rattle.cmd_tasks.specs.Stands.{StandsOn, ids_of};
 ghost use Rattle.cmd_tasks.specs.declared.task.Task.{Task as Tasked};
 ghost use Rattle.cmd_tasks.specs.declared.trace.Item.{Item as Seen};
 

@@ -18,11 +18,14 @@ use self::puts::{INSERTIONS, UPSERTS};
 use self::refusals::REFUSALS;
 use self::rows::{DELETIONS, REQUESTS, RETURNS, STREAMS, UPDATES, WORDS};
 use self::searches::{FAULTS, FIRSTS, ORDER, REFUSED, SORTABLE, SORTED, SORTS, UNSORTABLE, VIEWS};
-use crate::top::dapi;
+use crate::seed::seed_from;
+use crate::top::{dapi, refuse_seed};
 use keeper_mem::MemKeeper;
 use outside_io::{ListClock, MemSink, MemSource};
 use std::alloc::{AllocError, Global};
 use std::fmt::Write;
+use std::io::{Error, ErrorKind, Result as IoResult};
+use std::random::RandomSource;
 use std::test::Fail;
 
 // The reads of a row that sets none give so many bytes at most. A line of an insertion of `a` has 48.
@@ -431,5 +434,44 @@ fn many_sorted(rt: HostRuntime) -> Result<(), Fail> {
     let text = many_to_sort(alloc)?;
     let keeper = MemKeeper::new(alloc, Vec::new(alloc), 0);
     assert_eq!(rt; first_wrong_over(alloc, keeper, text.as_str())?, "");
+    Ok(())
+}
+
+// Random bytes that count up from one.
+struct Counting;
+
+impl RandomSource for Counting {
+    fn fill_bytes(&self, buf: &mut [u8]) -> IoResult<()> {
+        for (byte, i) in buf.iter_mut().zip(1u8..) {
+            *byte = i;
+        }
+        Ok(())
+    }
+}
+
+// A system that gives no random bytes.
+struct Refusing;
+
+impl RandomSource for Refusing {
+    fn fill_bytes(&self, _buf: &mut [u8]) -> IoResult<()> {
+        Err(Error::from(ErrorKind::Other))
+    }
+}
+
+#[test]
+fn a_seed_is_what_the_system_gives(rt: HostRuntime) -> Result<(), Fail> {
+    let alloc = rt.alloc();
+    match seed_from(&Counting) {
+        Ok(seed) => {
+            assert_eq!(rt; seed[0], 1);
+            assert_eq!(rt; seed[1], 2);
+            assert_eq!(rt; seed[27], 28);
+        }
+        Err(_) => assert!(rt; false),
+    }
+    assert!(rt; seed_from(&Refusing).is_err());
+    let mut notes = MemSink::new(alloc, 100, Vec::new(alloc))?;
+    assert_eq!(rt; refuse_seed(&mut notes), 11);
+    assert_eq!(rt; notes.bytes(), b"random fault\n".as_slice());
     Ok(())
 }

@@ -33,6 +33,15 @@ pub fn refuse_words<E: Sink>(notes: &mut E, fault: WordFault) -> u8
     word_status(fault)
 }
 
+/// Ends a call for which the system gave no random bytes: writes the note, and answers the exit status.
+pub fn refuse_seed<E: Sink>(notes: &mut E) -> u8
+    ensures status { result ≡ 11 }
+    ensures noted { IsNoted (E.writing notes.old) (E.writing notes.new) (codes "random fault\n") }
+{
+    write_note(notes, "random fault\n");
+    11
+}
+
 // Ends a call whose store couldn't be opened: writes the note, and hands the keeper back.
 fn refuse_store<E: Sink, K: Keeper>(notes: &mut E, fault: OpenFault<K>) -> (u8, K)
     ensures status { result.0 ≡ open_status fault }
