@@ -442,8 +442,10 @@ struct Counting;
 
 impl RandomSource for Counting {
     fn fill_bytes(&self, buf: &mut [u8]) -> IoResult<()> {
-        for (byte, i) in buf.iter_mut().zip(1u8..) {
-            *byte = i;
+        let mut count = 0u8;
+        for byte in buf {
+            count = count.wrapping_add(1);
+            *byte = count;
         }
         Ok(())
     }
