@@ -4,12 +4,18 @@
 mod bytes;
 mod laws;
 mod lines;
+mod mix;
 mod one;
+mod play;
+mod player;
 mod request;
 mod run;
+mod script;
 mod serve;
+mod streams;
 
 pub use laws::an_input_has_one_list_of_lines;
+pub use mix::mix;
 pub use run::RunHow;
 pub use serve::{RunEnd, run_lines};
 

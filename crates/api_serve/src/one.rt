@@ -97,11 +97,7 @@ fn target_name<'a>(place: &'a Place, command: &'a Command) -> Option<&'a str>
 }
 
 // The collection that a command is about, if it is about one.
-fn target_of(
-    alloc: Global,
-    place: &Place,
-    command: &Command,
-) -> Result<Option<CollName>, NoMemory>
+fn target_of(alloc: Global, place: &Place, command: &Command) -> Result<Option<CollName>, NoMemory>
     requires { IfSome (target place.now (command_tree command.now)) (λ name. IsTrue (is_collection_name name)) }
     ensures { IfOk result (λ coll. coll ≡ target place.now (command_tree command.now)) }
 {
@@ -114,28 +110,34 @@ fn target_of(
     }
 }
 
-// Serves a command to its end.
-fn perform<K: Keeper>(
+/// What becomes of a request at its beginning: a task, or its reply, where it is refused by itself or memory was wanting.
+pub enum Begun {
+    Task(Task),
+    Answered(Answered),
+}
+
+/// Reads a request, and makes its task.
+pub fn begin(
     alloc: Global,
+    keyspace: &str,
     session: u64,
-    coll: Option<CollName>,
     moment: i64,
-    command: Command,
+    request: &Request,
     ids: &mut Ids,
-    store: &mut Store<K>,
-) -> Answered
-    requires known { session < opened_in store.old.journal }
-    requires ready { IsAskable (command_tree command) }
-    requires targeted { IsTargeted coll (command_tree command) }
-    ensures performs { Performs session coll (command_tree command) moment (stream_of_ids ids.old) store.old.start store.old.journal store.new.journal result }
-    ensures drawn { stream_of_ids ids.new ≡ after_drawing (draws (command_tree command)) (stream_of_ids ids.old) }
-    ensures grown { Grown session store.old.journal (K.failed store.old.keeper) store.new.journal (K.failed store.new.keeper) }
-    ensures base { SameBase store.old store.new }
-    ensures lawful { IsLawful store.new }
-{
-    let task = Task::new(alloc, session, coll, moment, command, ids);
-    let Served { reply, trace } = serve(alloc, store, task);
-    Answered { reply, trace }
+) -> Begun {
+    match read_request(alloc, keyspace, request) {
+        Ok(command) => match target_of(alloc, &request.place, &command) {
+            Ok(coll) => Begun::Task(Task::new(alloc, session, coll, moment, command, ids)),
+            Err(_) => {
+                drop(command);
+                Begun::Answered(unread(moment, alloc))
+            }
+        },
+        Err(CommandFault::Refused { code, message }) => {
+            Begun::Answered(refused(moment, alloc, code, message))
+        }
+        Err(CommandFault::NoMemory) => Begun::Answered(unread(moment, alloc)),
+    }
 }
 
 // Serves a request to its end.
@@ -154,18 +156,12 @@ fn answer<K: Keeper>(
     ensures base { SameBase store.old store.new }
     ensures lawful { IsLawful store.new }
 {
-    store.journal_len();
-    a_request_begins();
-    match read_request(alloc, keyspace, request) {
-        Ok(command) => match target_of(alloc, &request.place, &command) {
-            Ok(coll) => perform(alloc, session, coll, moment, command, ids, store),
-            Err(_) => {
-                drop(command);
-                unread(moment, alloc)
-            }
-        },
-        Err(CommandFault::Refused { code, message }) => refused(moment, alloc, code, message),
-        Err(CommandFault::NoMemory) => unread(moment, alloc),
+    match begin(alloc, keyspace, session, moment, request, ids) {
+        Begun::Task(task) => {
+            let Served { reply, trace } = serve(alloc, store, task);
+            Answered { reply, trace }
+        }
+        Begun::Answered(answered) => answered,
     }
 }
 
@@ -254,7 +250,9 @@ pub fn serve_line<K: Keeper, C: Clock>(
         Ok(None) => return Err(LineStop::Wrong),
         Err(_) => return Err(LineStop::NoMemory),
     };
-    match serve_request(alloc, keyspace, session, &request, store, clock, ids, traces) {
+    match serve_request(
+        alloc, keyspace, session, &request, store, clock, ids, traces,
+    ) {
         Ok(reply) => match add_line(alloc, &reply, out) {
             Ok(()) => Ok(()),
             Err(_) => Err(LineStop::NoMemory),

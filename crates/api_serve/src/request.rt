@@ -93,8 +93,8 @@ fn after_version(line: &[u8]) -> Option<&[u8]>
     line.strip_prefix(b"/v1/".as_slice())
 }
 
-// What a line asks for, within it.
-fn asked_in(line: &[u8]) -> Option<Asked<'_>>
+/// What a line asks for, within it.
+pub fn asked_in(line: &[u8]) -> Option<Asked<'_>>
     ensures { MatchOption result ((parts : Parts) → Spells line.now parts → ⊥) (λ asked. Spells line.now (parts_in asked)) }
 {
     let Some(rest) = after_version(line) else {

@@ -15,63 +15,12 @@ ghost use Rattle.api_serve.specs.Shown.{service_of, serving_of, stage_of};
 ghost use Rattle.cmd_tasks.specs.declared.trace.Trace.{Trace as Kept};
 
 use crate::run::{Run, RunHow, Stop, start, take_last, take_piece};
+use crate::streams::{MAX_INPUT, PIECE, read_piece, send, zeros};
 use cmd_tasks::{Ids, Trace, a_session_opens};
 use col_keeper::Keeper;
 use outside_io::{Clock, IoFault, Sink, Source, write_all};
 use std::alloc::{AllocError, Global};
 use store_core::Store;
-
-/// The most bytes of input that a run reads.
-pub const MAX_INPUT: u64 = 1_099_511_627_776;
-
-const PIECE: usize = 65_536;
-
-// So many bytes of 0.
-fn zeros(alloc: Global, len: usize) -> Result<Vec<u8>, AllocError>
-    ensures { IfOk result (λ bytes. length bytes.items ≡ len) }
-{
-    vec![in alloc; 0u8; len]
-}
-
-// Reads a piece of at most so many bytes to the front of the buffer.
-fn read_piece<S: Source>(source: &mut S, buffer: &mut [u8], most: u64) -> Result<usize, IoFault>
-    requires { (0 < most) × (0 < length buffer.old) }
-    ensures given { IfOk result (λ n. (0 < n) × (n ≤ most) × (n ≤ length buffer.new) × ((S.reading source.old).left ≡ then_left (take n buffer.new) (S.reading source.new).left)) }
-    ensures kept { OnErr result ((S.reading source.new).left ≡ (S.reading source.old).left) }
-    ensures ended { result ≡ Err IoFault.Ended → ForSome (S.reading source.old).left (λ bytes. bytes ≡ []) }
-    ensures failed { result ≡ Err IoFault.Failed → Rose (S.reading source.old).failed (S.reading source.new).failed }
-    ensures grows { (S.reading source.old).failed ≤ (S.reading source.new).failed }
-    ensures len { length buffer.new ≡ length buffer.old }
-{
-    let room = most.min(buffer.len() as u64) as usize;
-    source.read(&mut buffer[..room])
-}
-
-// Writes the replies that aren't written yet.
-fn send<W: Sink>(sink: &mut W, out: &mut Vec<u8>) -> Result<(), RunHow>
-    ensures written { OnOk result (Takes (W.writing sink.old) out.old.items (W.writing sink.new) × (out.new.items ≡ [])) }
-    ensures cut { OnErr result ((n : ℕ) × (n < length out.old.items) × Takes (W.writing sink.old) (take n out.old.items) (W.writing sink.new)) }
-    ensures fault { IfErr result (IsWriteEnd (W.writing sink.old) (W.writing sink.new)) }
-    ensures grows { CountsGrow (W.writing sink.old) (W.writing sink.new) }
-{
-    let before = sink.write_faults();
-    match write_all(sink, out.as_slice()) {
-        Ok(()) => {
-            out.clear();
-            Ok(())
-        }
-        Err(IoFault::Failed) => Err(RunHow::WriteFault {
-            before,
-            after: sink.write_faults(),
-            nothing: false,
-        }),
-        Err(IoFault::Ended) => Err(RunHow::WriteFault {
-            before,
-            after: sink.write_faults(),
-            nothing: true,
-        }),
-    }
-}
 
 /// How a run ended, and the traces of its requests, in order, a list for its one session.
 #[derive(Drop)]

@@ -2,6 +2,7 @@
 mod changes;
 mod collections;
 mod generated;
+mod mixes;
 mod ones;
 mod pages;
 mod puts;
@@ -12,6 +13,7 @@ mod searches;
 use self::changes::{CHANGED, CHANGES, MANY};
 use self::collections::COLLECTIONS;
 use self::generated::GENERATED;
+use self::mixes::MIXES;
 use self::ones::ONES;
 use self::pages::{OPTIONS, PAGES, STATES};
 use self::puts::{INSERTIONS, UPSERTS};
@@ -203,6 +205,12 @@ fn calls_write_what_they_have_to(rt: HostRuntime) -> Result<(), Fail> {
     for rows in [REQUESTS, UPDATES, DELETIONS, MANY, WORDS, STREAMS, RETURNS] {
         assert_eq!(rt; first_wrong(rt.alloc(), rows)?, "");
     }
+    Ok(())
+}
+
+#[test]
+fn sessions_take_their_steps(rt: HostRuntime) -> Result<(), Fail> {
+    assert_eq!(rt; first_wrong(rt.alloc(), MIXES)?, "");
     Ok(())
 }
 

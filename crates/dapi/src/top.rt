@@ -14,8 +14,8 @@ ghost use Rattle.dapi.specs.Note.{IsNoted, line_note, note_at, is_status, status
 ghost use Rattle.dapi.specs.Ended.{EndsStore};
 
 use crate::note::{note_of, status_of, word_note, word_status, write_note};
-use crate::words::{WordFault, read};
-use api_serve::{RunEnd, RunHow, an_input_has_one_list_of_lines, run_lines};
+use crate::words::{Cmd, WordFault, read};
+use api_serve::{RunEnd, RunHow, an_input_has_one_list_of_lines, mix, run_lines};
 use cmd_tasks::{
     a_count_that_stays_has_no_fault, a_refused_request_blames_itself, a_session_alone_loses_nothing,
 };
@@ -71,6 +71,7 @@ fn refuse_store<E: Sink, K: Keeper>(notes: &mut E, fault: OpenFault<K>) -> (u8, 
 // Runs on an open store, and hands its keeper back.
 fn run_store<S: Source, W: Sink, E: Sink, K: Keeper, C: Clock>(
     alloc: Global,
+    command: Cmd,
     keyspace: &str,
     source: &mut S,
     sink: &mut W,
@@ -87,9 +88,10 @@ fn run_store<S: Source, W: Sink, E: Sink, K: Keeper, C: Clock>(
     ensures faults { K.failed store.keeper ≤ K.failed result.1 }
 {
     let mut store = store;
-    let RunEnd { how, traces: _ } = run_lines(
-        alloc, keyspace, source, sink, &mut store, clock, seed,
-    );
+    let RunEnd { how, traces: _ } = match command {
+        Cmd::Run => run_lines(alloc, keyspace, source, sink, &mut store, clock, seed),
+        Cmd::Mix => mix(alloc, keyspace, source, sink, &mut store, clock, seed),
+    };
     write_note(notes, note_of(how).as_str());
     (status_of(how), store.into_keeper())
 }
@@ -174,6 +176,7 @@ pub fn dapi<S: Source, W: Sink, E: Sink, K: Keeper, C: Clock>(
             a_refused_request_blames_itself();
             run_store(
                 alloc,
+                job.command,
                 job.keyspace.text(),
                 source,
                 sink,

@@ -16,9 +16,17 @@ pub enum WordFault {
     NoMemory,
 }
 
-/// What the words ask for: a run on a keyspace, with these collections.
+/// What the first word asks for: requests served one behind the other, or a script of several sessions.
+#[derive(Clone, Copy, Debug, PartialEq, Eq)]
+pub enum Cmd {
+    Run,
+    Mix,
+}
+
+/// What the words ask for: a command on a keyspace, with these collections.
 #[derive(Drop)]
 pub struct Job {
+    pub command: Cmd,
     pub keyspace: CollName,
     pub collections: Vec<CollName>,
 }
@@ -141,8 +149,17 @@ fn keyspace_of(alloc: Global, named: Option<CollName>) -> Result<CollName, NoMem
     }
 }
 
+// The command that a word names.
+fn command_of(word: &str) -> Option<Cmd> {
+    match word {
+        "run" => Some(Cmd::Run),
+        "mix" => Some(Cmd::Mix),
+        _ => None,
+    }
+}
+
 // The job of these options.
-fn job_of(alloc: Global, choices: Choices) -> Result<Job, NoMemory>
+fn job_of(alloc: Global, command: Cmd, choices: Choices) -> Result<Job, NoMemory>
     ensures { IfOk result (λ job. (job.keyspace ≡ keyspace_of (kept_keyspace choices.keyspace)) × (job.collections.items ≡ choices.collections.items)) }
 {
     let Choices {
@@ -151,6 +168,7 @@ fn job_of(alloc: Global, choices: Choices) -> Result<Job, NoMemory>
     } = choices;
     match keyspace_of(alloc, keyspace) {
         Ok(keyspace) => Ok(Job {
+            command,
             keyspace,
             collections,
         }),
@@ -163,17 +181,17 @@ pub fn read(alloc: Global, words: &[String]) -> Result<Job, WordFault>
     ensures ok { IfOk result (λ job. RunsOn (map string_bytes words.now) job.keyspace job.collections.items) }
     ensures err { IfErr result (IsWordFault (map string_bytes words.now)) }
 {
-    let Some((command, options)) = words.split_first() else {
+    let Some((word, options)) = words.split_first() else {
         return Err(WordFault::Usage);
     };
-    if command.as_str() != "run" {
+    let Some(command) = command_of(word.as_str()) else {
         return Err(WordFault::Usage);
-    }
+    };
     let choices = match choices_of(alloc, options) {
         Ok(choices) => choices,
         Err(fault) => return Err(fault),
     };
-    match job_of(alloc, choices) {
+    match job_of(alloc, command, choices) {
         Ok(job) => Ok(job),
         Err(_) => Err(WordFault::NoMemory),
     }

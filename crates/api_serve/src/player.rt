@@ -1,0 +1,133 @@
+//! A session of a mix, whose requests are served step by step.
+use crate::one::{Answered, Begun, begin};
+use cmd_tasks::{Ids, Next, Served, Task, Trace};
+use col_keeper::Keeper;
+use outside_io::{Clock, NoMemory};
+use reply_env::{Reply, Request};
+use std::alloc::Global;
+use std::collections::VecDeque;
+use store_core::Store;
+
+/// A session as far as it has come: the requests that it hasn't begun, the task under way, and of those that were served
+/// the replies and the traces, in order. These have room for all.
+#[derive(Drop)]
+pub struct Player {
+    session: u64,
+    ids: Ids,
+    left: VecDeque<Request>,
+    task: Option<Task>,
+    replies: Vec<Reply>,
+    traces: Vec<Trace>,
+}
+
+impl Player {
+    /// The player of a session that was just opened.
+    pub fn new(
+        alloc: Global,
+        session: u64,
+        ids: Ids,
+        requests: VecDeque<Request>,
+    ) -> Result<Player, NoMemory> {
+        let mut replies = Vec::new(alloc);
+        let mut traces = Vec::new(alloc);
+        let count = requests.len();
+        if replies.reserve(count).is_err() || traces.reserve(count).is_err() {
+            return Err(NoMemory);
+        }
+        Ok(Player {
+            session,
+            ids,
+            left: requests,
+            task: None,
+            replies,
+            traces,
+        })
+    }
+
+    /// Whether all its requests were served.
+    pub fn is_done(&self) -> bool {
+        self.task.is_none() && self.left.is_empty()
+    }
+
+    /// The replies, and the traces.
+    pub fn into_served(self) -> (Vec<Reply>, Vec<Trace>) {
+        let Player {
+            session: _,
+            ids: _,
+            left: _,
+            task: _,
+            replies,
+            traces,
+        } = self;
+        (replies, traces)
+    }
+
+    // Keeps what a request that was served is answered.
+    fn keep(&mut self, reply: Reply, trace: Trace) {
+        self.replies.push_reserved(reply);
+        self.traces.push_reserved(trace);
+    }
+
+    // Makes one step of a task.
+    fn step_task<K: Keeper>(&mut self, alloc: Global, store: &mut Store<K>, task: Task) {
+        let mut task = task;
+        match task.step(alloc, store) {
+            Next::More => self.task = Some(task),
+            Next::Done => {
+                let Served { reply, trace } = task.into_served();
+                self.keep(reply, trace);
+            }
+        }
+    }
+
+    /// One step, where anything is left: of the task under way, or of the one of the next request, which is made at the
+    /// clock's time. A request that is refused by itself is served in its one step.
+    pub fn step<K: Keeper, C: Clock>(
+        &mut self,
+        alloc: Global,
+        keyspace: &str,
+        store: &mut Store<K>,
+        clock: &mut C,
+    ) {
+        if let Some(task) = self.task.take() {
+            return self.step_task(alloc, store, task);
+        }
+        let Some(request) = self.left.pop_front() else {
+            return;
+        };
+        let moment = clock.now_ms();
+        match begin(
+            alloc,
+            keyspace,
+            self.session,
+            moment,
+            &request,
+            &mut self.ids,
+        ) {
+            Begun::Task(task) => self.step_task(alloc, store, task),
+            Begun::Answered(Answered { reply, trace }) => self.keep(reply, trace),
+        }
+    }
+
+    // Serves the request under way to its end.
+    fn end_task<K: Keeper>(&mut self, alloc: Global, store: &mut Store<K>) {
+        'steps: while let Some(task) = self.task.take() {
+            self.step_task(alloc, store, task);
+        }
+    }
+
+    /// Serves all that is left.
+    pub fn run_out<K: Keeper, C: Clock>(
+        &mut self,
+        alloc: Global,
+        keyspace: &str,
+        store: &mut Store<K>,
+        clock: &mut C,
+    ) {
+        self.end_task(alloc, store);
+        'requests: while !self.left.is_empty() {
+            self.step(alloc, keyspace, store, clock);
+            self.end_task(alloc, store);
+        }
+    }
+}

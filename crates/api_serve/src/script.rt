@@ -1,0 +1,170 @@
+//! The script of a mix: what each of its sessions asks, and in which order they take their steps.
+use crate::bytes::cut;
+use crate::one::LineStop;
+use crate::request::{asked_in, is_skipped, request_of};
+use crate::run::Stop;
+use outside_io::NoMemory;
+use reply_env::Request;
+use std::alloc::Global;
+use std::collections::VecDeque;
+
+/// The requests of each session, in order, and the numbers of the `step` lines, in order.
+#[derive(Drop)]
+pub struct Script {
+    pub requests: Vec<VecDeque<Request>>,
+    pub turns: Vec<u8>,
+}
+
+// The session's number that these bytes are: 0 to 15, in decimal.
+fn number_of(bytes: &[u8]) -> Option<u8> {
+    let (first, rest) = match bytes.split_first() {
+        Some(parts) => parts,
+        None => return None,
+    };
+    let first = digit_of(*first)?;
+    match rest.split_first() {
+        None => Some(first),
+        Some((second, rest)) => {
+            if first != 1 || !rest.is_empty() {
+                return None;
+            }
+            let second = digit_of(*second)?;
+            if second > 5 { None } else { Some(10 + second) }
+        }
+    }
+}
+
+// The digit that a byte is.
+fn digit_of(byte: u8) -> Option<u8> {
+    if byte.is_ascii_digit() {
+        Some(byte - b'0')
+    } else {
+        None
+    }
+}
+
+// What stands behind the word that a line begins with, and a space.
+fn after_word<'a>(line: &'a [u8], word: &[u8]) -> Option<&'a [u8]> {
+    line.strip_prefix(word)
+}
+
+// The number of an `ask` line, and what stands behind it.
+fn ask_in(line: &[u8]) -> Option<(u8, &[u8])> {
+    let rest = after_word(line, b"ask ".as_slice())?;
+    let (number, rest) = cut(rest, b' ')?;
+    Some((number_of(number)?, rest))
+}
+
+// The first line of what is left of an input, without its LF, and what is left behind it.
+fn next_line(input: &[u8]) -> Option<(&[u8], &[u8])> {
+    if input.is_empty() {
+        return None;
+    }
+    match cut(input, b'\n') {
+        Some(parts) => Some(parts),
+        None => Some((input, &input[input.len()..])),
+    }
+}
+
+// How many sessions the `ask` lines of an input name: each names one that an earlier one names, or the next.
+fn named_in(input: &[u8]) -> u8 {
+    let mut named = 0;
+    let mut rest = input;
+    'lines: while let Some((line, behind)) = next_line(rest) {
+        rest = behind;
+        if let Some((number, asked)) = ask_in(line) {
+            if number == named && asked_in(asked).is_some() {
+                named += 1;
+            }
+        }
+    }
+    named
+}
+
+// Adds the request of an `ask` line.
+fn add_request(
+    alloc: Global,
+    number: u8,
+    request: Request,
+    requests: &mut Vec<VecDeque<Request>>,
+) -> Result<(), NoMemory> {
+    let at = usize::from(number);
+    if at == requests.len() {
+        let Ok(()) = requests.push(VecDeque::new(alloc)) else {
+            return Err(NoMemory);
+        };
+    }
+    match requests[at].push_back(request) {
+        Ok(()) => Ok(()),
+        Err(_) => Err(NoMemory),
+    }
+}
+
+// Adds the numbers of a `step` line, which stand behind its first word, each behind one space.
+fn add_turns(numbers: &[u8], named: u8, turns: &mut Vec<u8>) -> Result<(), LineStop> {
+    let mut rest = numbers;
+    'numbers: loop {
+        let (number, behind) = match cut(rest, b' ') {
+            Some((number, behind)) => (number, Some(behind)),
+            None => (rest, None),
+        };
+        match number_of(number) {
+            Some(number) if number < named => {
+                if turns.push(number).is_err() {
+                    return Err(LineStop::NoMemory);
+                }
+            }
+            _ => return Err(LineStop::Wrong),
+        }
+        match behind {
+            Some(behind) => rest = behind,
+            None => return Ok(()),
+        }
+    }
+}
+
+// Adds what a line says, where its input names so many sessions.
+fn add_line(alloc: Global, line: &[u8], named: u8, script: &mut Script) -> Result<(), LineStop> {
+    if is_skipped(line) {
+        return Ok(());
+    }
+    if let Some(numbers) = after_word(line, b"step ".as_slice()) {
+        return add_turns(numbers, named, &mut script.turns);
+    }
+    let Some((number, asked)) = ask_in(line) else {
+        return Err(LineStop::Wrong);
+    };
+    if usize::from(number) > script.requests.len() {
+        return Err(LineStop::Wrong);
+    }
+    let request = match request_of(alloc, asked) {
+        Ok(Some(request)) => request,
+        Ok(None) => return Err(LineStop::Wrong),
+        Err(_) => return Err(LineStop::NoMemory),
+    };
+    match add_request(alloc, number, request, &mut script.requests) {
+        Ok(()) => Ok(()),
+        Err(_) => Err(LineStop::NoMemory),
+    }
+}
+
+/// The script that an input is, or the number of its first line that isn't of its form.
+pub fn script_of(alloc: Global, input: &[u8]) -> Result<Script, Stop> {
+    let named = named_in(input);
+    let mut script = Script {
+        requests: Vec::new(alloc),
+        turns: Vec::new(alloc),
+    };
+    let mut count = 0;
+    let mut rest = input;
+    'lines: while let Some((line, behind)) = next_line(rest) {
+        count += 1;
+        rest = behind;
+        match add_line(alloc, line, named, &mut script) {
+            Ok(()) => {}
+            Err(LineStop::Wrong) => return Err(Stop::Wrong { line: count }),
+            Err(LineStop::NoMemory) => return Err(Stop::NoMemory),
+        }
+    }
+    Ok(script)
+}
