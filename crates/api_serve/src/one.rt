@@ -97,11 +97,7 @@ fn target_name<'a>(place: &'a Place, command: &'a Command) -> Option<&'a str>
 }
 
 // The collection that a command is about, if it is about one.
-fn target_of(
-    alloc: Global,
-    place: &Place,
-    command: &Command,
-) -> Result<Option<CollName>, NoMemory>
+fn target_of(alloc: Global, place: &Place, command: &Command) -> Result<Option<CollName>, NoMemory>
     requires { IfSome (target place.now (command_tree command.now)) (λ name. IsTrue (is_collection_name name)) }
     ensures { IfOk result (λ coll. coll ≡ target place.now (command_tree command.now)) }
 {
@@ -254,7 +250,9 @@ pub fn serve_line<K: Keeper, C: Clock>(
         Ok(None) => return Err(LineStop::Wrong),
         Err(_) => return Err(LineStop::NoMemory),
     };
-    match serve_request(alloc, keyspace, session, &request, store, clock, ids, traces) {
+    match serve_request(
+        alloc, keyspace, session, &request, store, clock, ids, traces,
+    ) {
         Ok(reply) => match add_line(alloc, &reply, out) {
             Ok(()) => Ok(()),
             Err(_) => Err(LineStop::NoMemory),
