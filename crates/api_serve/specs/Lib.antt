@@ -11,3 +11,6 @@ pub mod Shown
 pub mod One
 pub mod Piece
 pub mod Sent
+pub mod Script
+pub mod Play
+pub mod Mix
