@@ -11,21 +11,21 @@ use Rattle.cmd_tasks.specs.declared.task.Task.{Task}
 
 -- every command may be on a collection
 pub targeted : (coll : List ℕ) (c : CommandTree) → IsTargeted (Some coll) c
-targeted coll (insert_one d) = tt
-targeted coll (insert_many ds ordered) = tt
-targeted coll (find_one f sort shows) = tt
-targeted coll (find f sort shows p) = tt
-targeted coll (count_documents f) = tt
-targeted coll (update_one f u sort upsert) = tt
-targeted coll (update_many f u upsert page) = tt
-targeted coll (delete_one f sort) = tt
-targeted coll (delete_many f) = tt
-targeted coll (find_one_and_update f u sort shows upsert after) = tt
-targeted coll (find_one_and_replace f r sort shows upsert after) = tt
-targeted coll (find_one_and_delete f sort shows) = tt
-targeted coll (create_collection name) = tt
+targeted coll (insert_one d) = refl
+targeted coll (insert_many ds ordered) = refl
+targeted coll (find_one f sort shows) = refl
+targeted coll (find f sort shows p) = refl
+targeted coll (count_documents f) = refl
+targeted coll (update_one f u sort upsert) = refl
+targeted coll (update_many f u upsert page) = refl
+targeted coll (delete_one f sort) = refl
+targeted coll (delete_many f) = refl
+targeted coll (find_one_and_update f u sort shows upsert after) = refl
+targeted coll (find_one_and_replace f r sort shows upsert after) = refl
+targeted coll (find_one_and_delete f sort shows) = refl
+targeted coll (create_collection name) = refl
 targeted coll find_collections = tt
-targeted coll (delete_collection name) = tt
+targeted coll (delete_collection name) = refl
 
 -- ---- the history grows
 

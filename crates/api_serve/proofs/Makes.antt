@@ -7,7 +7,7 @@ use Rattle.rand_core.specs.Stream.{Stream}
 use Rattle.json_tree.specs.Tree.{Tree}
 use Rattle.reply_env.specs.Reply.{reply_text}
 use Rattle.reply_env.specs.declared.request.Request.{Request}
-use Rattle.cmd_tasks.specs.Ids.{drawn}
+use Rattle.cmd_tasks.specs.Ids.{drawn, after_drawing}
 use Rattle.cmd_tasks.specs.Session.{Exchange, IsSession, AreCounted, Asking, draws_of}
 use Rattle.store_core.specs.Counts.{AllBy, opened_in}
 use Rattle.reply_env.specs.declared.request.Place.{Place}
@@ -105,11 +105,11 @@ told_moments told later xs ys p is q times e = moments_append times xs ys (p tim
 
 drawn_append : (stream : Stream) (xs ys : List Exchange) → AreDrawn stream xs → AreDrawn (stream_behind xs stream) ys → AreDrawn stream (xs ++ ys)
 drawn_append stream [] ys p q = q
-drawn_append stream (x ∷ xs) ys p q = (p.0, drawn_append _ xs ys p.1 q)
+drawn_append stream (x ∷ xs) ys p q = (p.0, drawn_append (after_drawing (draws_of x.asking) stream) xs ys p.1 q)
 
 left_append : (stream : Stream) (xs ys : List Exchange) → stream_behind (xs ++ ys) stream ≡ stream_behind ys (stream_behind xs stream)
 left_append stream [] ys = refl
-left_append stream (x ∷ xs) ys = left_append _ xs ys
+left_append stream (x ∷ xs) ys = left_append (after_drawing (draws_of x.asking) stream) xs ys
 
 pub lines-append : (xs ys : List Exchange) → reply_lines (xs ++ ys) ≡ reply_lines xs ++ reply_lines ys
 lines-append [] ys = refl
