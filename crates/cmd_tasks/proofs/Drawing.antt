@@ -147,7 +147,7 @@ told_more ds rest d s₀ s s' all next None s'_is first is told = tt
 told_more ds rest d s₀ s s' all next (Some v) s'_is first is told =
     let first_is : tree is.value ≡ first_under d s = subst (λ (r : Result Value TreeFault). IfOk r (λ w. tree w ≡ first_under d s)) is.next_is first in
     let before : map tree is.before.items ++ under_ids (drawn (without_id (d ∷ rest)) s) (d ∷ rest) ≡ under_ids (drawn (without_id ds) s₀) ds =
-        subst (λ (o : Option ReadyVec). IfSome o (λ w. map tree w.items ++ under_ids (drawn (without_id (d ∷ rest)) s) (d ∷ rest) ≡ under_ids (drawn (without_id ds) s₀) ds)) is.all_is told in
+    subst (λ (o : Option ReadyVec). IfSome o (λ w. map tree w.items ++ under_ids (drawn (without_id (d ∷ rest)) s) (d ∷ rest) ≡ under_ids (drawn (without_id ds) s₀) ds)) is.all_is told in
     let front : map tree v.items ≡ map tree is.before.items ++ first_under d s ∷ [] = ap (map tree) is.more_is ∙ (map-append tree is.before.items (is.value ∷ []) ∙ ap (λ (t : Tree). map tree is.before.items ++ t ∷ []) first_is) in
     let later : under_ids (drawn (without_id rest) s') rest ≡ under_ids (drawn (without_id rest) (behind_first d s)) rest = ap (λ (z : Stream). under_ids (drawn (without_id rest) z) rest) s'_is in
     (λ j. front j ++ later j)

@@ -182,7 +182,7 @@ module _ (i : Insertions) (d : Tree) (rest : Insertions) (ready : IsInsertions i
     -- ---- it goes on behind the sight of it
 
     module _ (ids : List Tree) (es : List ErrorItem) (more : Insertions) (has : HasMore rest ids es more) (item : Item) (insertion : IsInsertion base coll k d (sight H' item))
-      (ids_is : id_written item (Some d) ≡ ids) (es_is : error_of_double item (Some d) ≡ es) where
+        (ids_is : id_written item (Some d) ≡ ids) (es_is : error_of_double item (Some d) ≡ es) where
       abbrev s : Sight
       s = sight H' item
 
@@ -222,8 +222,13 @@ module _ (i : Insertions) (d : Tree) (rest : Insertions) (ready : IsInsertions i
           let none = ⊎_elim
           (λ (e : more.left.items ≡ []). let a = all_is in let b = length_is in let c = ap length e in inl (slice_get_past ds (length (s ∷ earlier)) (omega arith)))
           (λ (e : is_over more ≡ true). inr (sym over_is ∙ e)) over in
-          inl (part, (closed (i.ordered && is_any (doubles ds (s ∷ earlier))) (slice_get ds (length (s ∷ earlier))) none,
-          subst (λ (l : List ErrorItem). TellsInsertions (inserted ds (s ∷ earlier)) l reply) errors_told (subst (λ (l : List Tree). TellsInsertions l more.errors.items reply) ids_told tells)))
+          inl (
+            part,
+            (
+              closed (i.ordered && is_any (doubles ds (s ∷ earlier))) (slice_get ds (length (s ∷ earlier))) none,
+              subst (λ (l : List ErrorItem). TellsInsertions (inserted ds (s ∷ earlier)) l reply) errors_told (subst (λ (l : List Tree). TellsInsertions l more.errors.items reply) ids_told tells),
+            ),
+          )
 
       pub on_leads : (o : Moved) → InsertsOn more item o → Leads base coll k H' (Inserting i) earlier o
       on_leads (m.Goes at w) on = subst (λ (z : State). IsUnderWay base coll k z (sight H' at ∷ earlier)) (sym on.1) (subst (λ (z : Item). IsUnderWay base coll k (Inserting more) (sight H' z ∷ earlier)) (sym on.0) (goes on.2 on.3))

@@ -11,9 +11,7 @@ ghost use Rattle.cmd_tasks.specs.Moves.{Begins};
 ghost use Rattle.cmd_tasks.specs.Many.{IsStart, making_of, doing_of, form_of};
 
 use crate::ids::Ids;
-use crate::work::{
-    Doing, Form, Making, Many, One, Part, Progress, Search, Stand, State, Wanted,
-};
+use crate::work::{Doing, Form, Making, Many, One, Part, Progress, Search, Stand, State, Wanted};
 use filter_tree::Filter;
 use json_tree::DocId;
 use std::alloc::Global;
@@ -52,13 +50,7 @@ pub(crate) fn counting(alloc: Global, filter: Filter) -> State
 }
 
 /// The state in which a command begins that changes one document.
-pub(crate) fn choosing(
-    alloc: Global,
-    filter: Filter,
-    sort: Sort,
-    doing: Doing,
-    form: Form,
-) -> State
+pub(crate) fn choosing(alloc: Global, filter: Filter, sort: Sort, doing: Doing, form: Form) -> State
     requires { IsAskableFilter (filter_tree filter) }
     ensures { Begins (changes_one (filter_tree filter) sort (doing_of doing) (form_of form)) result }
 {

@@ -245,7 +245,16 @@ fn matching(alloc: Global, moment: i64, command: Command, ids: &mut Ids) -> Opti
             filter,
             sort,
             projection,
-        } => Some(choosing(alloc, filter, sort, Doing::Deletes, Form::Shows { projection, after: false })),
+        } => Some(choosing(
+            alloc,
+            filter,
+            sort,
+            Doing::Deletes,
+            Form::Shows {
+                projection,
+                after: false,
+            },
+        )),
         changes => changing(alloc, moment, changes, ids),
     }
 }

@@ -26,8 +26,7 @@ use col_keeper::{Keeper, limits_bound_ids};
 use doc_paths::CollName;
 use json_tree::{Doc, DocId, TreeFault, Value};
 use reply_env::{
-    ErrorItem, Reply, ReplyFault, SoFar, already_exists, no_collection, store_fault,
-    versions_spent,
+    ErrorItem, Reply, ReplyFault, SoFar, already_exists, no_collection, store_fault, versions_spent,
 };
 use std::alloc::Global;
 use store_core::{Change, Store, WriteOutcome};
@@ -163,13 +162,7 @@ fn with_error(
 }
 
 /// The next one's id is there: its error is told where all is, and the others go on unless they are ordered.
-fn doubled(
-    alloc: Global,
-    at: u64,
-    found: Option<u64>,
-    id: &DocId,
-    insertions: Insertions,
-) -> Moved
+fn doubled(alloc: Global, at: u64, found: Option<u64>, id: &DocId, insertions: Insertions) -> Moved
     requires { IsSome found }
     ensures { (tx : ℕ) → found ≡ Some tx → (result ≡ Moved.NoMemory) ⊎ InsertsMore insertions [] (errors.already_exists id.now tx ∷ []) (Lost at 0 (Some tx)) result }
 {
@@ -296,9 +289,7 @@ fn insert_doc<K: Keeper>(
         WriteOutcome::VersionsSpent { at } => {
             stopped_at(alloc, at, &key, rest, versions_spent(alloc))
         }
-        WriteOutcome::Fault { at, before, after } => {
-            failed_at(alloc, at, before, after, rest)
-        }
+        WriteOutcome::Fault { at, before, after } => { failed_at(alloc, at, before, after, rest) }
         WriteOutcome::NoMemory => Moved::NoMemory,
     }
 }

@@ -14,10 +14,10 @@ ghost use Rattle.cmd_tasks.specs.declared.work.Moved.TheVariants as moved;
 
 use crate::glance::glance;
 use crate::insertions::put_in_place;
+use crate::one::{MOST, conflict, with_loss};
 use crate::steps::{Ends, ends_of, failed, marked};
 use crate::taking::{counted, go_on, told_after};
 use crate::trace::Item;
-use crate::one::{MOST, conflict, with_loss};
 use crate::work::{Attempt, Doing, Glance, Many, Moved, Stand, State, Wanted, is_match};
 use col_keeper::Keeper;
 use doc_paths::CollName;

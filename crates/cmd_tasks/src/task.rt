@@ -146,12 +146,7 @@ fn advance_on<K: Keeper>(
 }
 
 /// One step of the work that is on no collection.
-fn advance_outside<K: Keeper>(
-    alloc: Global,
-    store: &mut Store<K>,
-    by: u64,
-    state: State,
-) -> Moved
+fn advance_outside<K: Keeper>(alloc: Global, store: &mut Store<K>, by: u64, state: State) -> Moved
     requires known { by < opened_in store.old.journal }
     requires ready { IsReady state }
     requires outside { IfSome (asked state) (HasCollection None) }

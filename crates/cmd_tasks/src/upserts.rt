@@ -99,7 +99,11 @@ fn replaced_by(
 }
 
 /// What is written in the place of a document, if it is changed.
-pub(crate) fn made_of(alloc: Global, making: &Making, doc: &Doc) -> Result<Option<Change>, UpdateFault>
+pub(crate) fn made_of(
+    alloc: Global,
+    making: &Making,
+    doc: &Doc,
+) -> Result<Option<Change>, UpdateFault>
     ensures told { Gives (λ (written : Option Written). written) result (change_to (making_of making.now) doc.now (made (making_of making.now) doc.now)) }
     ensures fits { IfOk result (λ written. IfSome written (λ c. FitsId (id_of doc.now) (new_doc c))) }
 {
