@@ -8,3 +8,4 @@ pub mod HasLines
 pub mod Whole
 pub mod Opened
 pub mod Contests
+pub mod Playing

@@ -14,3 +14,4 @@ pub mod Sent
 pub mod Script
 pub mod Play
 pub mod Mix
+pub mod Scripted

@@ -4,7 +4,7 @@
 mod bytes;
 mod laws;
 mod lines;
-mod mix;
+mod mixing;
 mod one;
 mod play;
 mod player;
@@ -15,7 +15,7 @@ mod serve;
 mod streams;
 
 pub use laws::an_input_has_one_list_of_lines;
-pub use mix::mix;
+pub use mixing::mix;
 pub use run::RunHow;
 pub use serve::{RunEnd, run_lines};
 

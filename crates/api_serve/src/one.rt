@@ -17,7 +17,7 @@ ghost use Rattle.api_serve.specs.Request.{IsRightLine};
 ghost use Rattle.api_serve.specs.Run.{Serves};
 ghost use Rattle.cmd_grammar.specs.Asked.{target};
 ghost use Rattle.cmd_grammar.specs.Commands.{command_tree, IsAskable};
-ghost use Rattle.api_serve.specs.One.{Answers, Performs, IsUnserved, IsRefusedAs, CutShort};
+ghost use Rattle.api_serve.specs.One.{Answers, Begins, IsUnserved, IsRefusedAs, CutShort};
 
 use crate::request::{is_skipped, request_of};
 use cmd_grammar::{Command, CommandFault, read_request};
@@ -111,6 +111,7 @@ fn target_of(alloc: Global, place: &Place, command: &Command) -> Result<Option<C
 }
 
 /// What becomes of a request at its beginning: a task, or its reply, where it is refused by itself or memory was wanting.
+#[derive(Drop)]
 pub enum Begun {
     Task(Task),
     Answered(Answered),
@@ -124,7 +125,9 @@ pub fn begin(
     moment: i64,
     request: &Request,
     ids: &mut Ids,
-) -> Begun {
+) -> Begun
+    ensures { Begins keyspace.now session moment request.now (stream_of_ids ids.old) (stream_of_ids ids.new) result }
+{
     match read_request(alloc, keyspace, request) {
         Ok(command) => match target_of(alloc, &request.place, &command) {
             Ok(coll) => Begun::Task(Task::new(alloc, session, coll, moment, command, ids)),

@@ -1,4 +1,9 @@
 //! The script of a mix: what each of its sessions asks, and in which order they take their steps.
+ghost use Rattle.std.specs.Prelude.{◌≡◌, ◌++◌, ◌∷◌, ◌<◌, ◌≤◌, ℕ, List, [], None, Err, IfSome, MatchOption, OnOk, codes, decimal, IsTrue};
+ghost use Rattle.api_serve.specs.Lines.{HasLines};
+ghost use Rattle.api_serve.specs.Script.{AreNamed};
+ghost use Rattle.api_serve.specs.Scripted.{IsFirstLine, IsAskOf, AreTurns};
+
 use crate::bytes::cut;
 use crate::one::LineStop;
 use crate::request::{asked_in, is_skipped, request_of};
@@ -16,47 +21,39 @@ pub struct Script {
 }
 
 // The session's number that these bytes are: 0 to 15, in decimal.
-fn number_of(bytes: &[u8]) -> Option<u8> {
-    let (first, rest) = match bytes.split_first() {
-        Some(parts) => parts,
-        None => return None,
-    };
-    let first = digit_of(*first)?;
-    match rest.split_first() {
-        None => Some(first),
-        Some((second, rest)) => {
-            if first != 1 || !rest.is_empty() {
-                return None;
-            }
-            let second = digit_of(*second)?;
-            if second > 5 { None } else { Some(10 + second) }
+fn number_of(bytes: &[u8]) -> Option<u8>
+    ensures { MatchOption result ((k : ℕ) → k < 16 → bytes.now ≡ decimal k → ⊥) (λ k. (k < 16) × (bytes.now ≡ decimal k)) }
+{
+    let mut buffer = itoa::Buffer::new();
+    'numbers: for number in 0..16u8 {
+        if buffer.format(number).as_bytes() == bytes {
+            return Some(number);
         }
     }
-}
-
-// The digit that a byte is.
-fn digit_of(byte: u8) -> Option<u8> {
-    if byte.is_ascii_digit() {
-        Some(byte - b'0')
-    } else {
-        None
-    }
+    None
 }
 
 // What stands behind the word that a line begins with, and a space.
-fn after_word<'a>(line: &'a [u8], word: &[u8]) -> Option<&'a [u8]> {
+fn after_word<'a>(line: &'a [u8], word: &[u8]) -> Option<&'a [u8]>
+    ensures { MatchOption result ((rest : List ℕ) → line.now ≡ word.now ++ rest → ⊥) (λ rest. line.now ≡ word.now ++ rest.now) }
+{
     line.strip_prefix(word)
 }
 
 // The number of an `ask` line, and what stands behind it.
-fn ask_in(line: &[u8]) -> Option<(u8, &[u8])> {
+fn ask_in(line: &[u8]) -> Option<(u8, &[u8])>
+    ensures { MatchOption result ((number : ℕ) (rest : List ℕ) → IsAskOf line.now number rest → ⊥) (λ p. IsAskOf line.now p.0 p.1.now) }
+{
     let rest = after_word(line, b"ask ".as_slice())?;
     let (number, rest) = cut(rest, b' ')?;
     Some((number_of(number)?, rest))
 }
 
 // The first line of what is left of an input, without its LF, and what is left behind it.
-fn next_line(input: &[u8]) -> Option<(&[u8], &[u8])> {
+fn next_line(input: &[u8]) -> Option<(&[u8], &[u8])>
+    ensures some { IfSome result (λ p. IsFirstLine input.now p.0.now p.1.now) }
+    ensures none { result ≡ None → input.now ≡ [] }
+{
     if input.is_empty() {
         return None;
     }
@@ -67,7 +64,10 @@ fn next_line(input: &[u8]) -> Option<(&[u8], &[u8])> {
 }
 
 // How many sessions the `ask` lines of an input name: each names one that an earlier one names, or the next.
-fn named_in(input: &[u8]) -> u8 {
+fn named_in(input: &[u8]) -> u8
+    ensures named { (lines : List (List ℕ)) → HasLines input.now lines → AreNamed 0 lines result }
+    ensures few { result ≤ 16 }
+{
     let mut named = 0;
     let mut rest = input;
     'lines: while let Some((line, behind)) = next_line(rest) {
@@ -101,7 +101,10 @@ fn add_request(
 }
 
 // Adds the numbers of a `step` line, which stand behind its first word, each behind one space.
-fn add_turns(numbers: &[u8], named: u8, turns: &mut Vec<u8>) -> Result<(), LineStop> {
+fn add_turns(numbers: &[u8], named: u8, turns: &mut Vec<u8>) -> Result<(), LineStop>
+    ensures added { OnOk result ((given : List ℕ) × AreTurns numbers.now named given × (turns.new.items ≡ turns.old.items ++ given)) }
+    ensures wrong { result ≡ Err LineStop.Wrong → (given : List ℕ) → AreTurns numbers.now named given → ⊥ }
+{
     let mut rest = numbers;
     'numbers: loop {
         let (number, behind) = match cut(rest, b' ') {
