@@ -1,6 +1,9 @@
 //! The top call on streams in memory: a table of calls, each with what it writes.
 mod changes;
 mod collections;
+mod contests;
+mod crowds;
+mod cuts;
 mod generated;
 mod mixes;
 mod ones;
@@ -8,10 +11,14 @@ mod pages;
 mod puts;
 mod refusals;
 mod rows;
+mod scripts;
 mod searches;
 
 use self::changes::{CHANGED, CHANGES, MANY};
 use self::collections::COLLECTIONS;
+use self::contests::CONTESTS;
+use self::crowds::{CROWDS, DROPS};
+use self::cuts::CUTS;
 use self::generated::GENERATED;
 use self::mixes::MIXES;
 use self::ones::ONES;
@@ -19,6 +26,7 @@ use self::pages::{OPTIONS, PAGES, STATES};
 use self::puts::{INSERTIONS, UPSERTS};
 use self::refusals::REFUSALS;
 use self::rows::{DELETIONS, REQUESTS, RETURNS, STREAMS, UPDATES, WORDS};
+use self::scripts::{BLANKS, SCRIPTS, SESSIONS};
 use self::searches::{FAULTS, FIRSTS, ORDER, REFUSED, SORTABLE, SORTED, SORTS, UNSORTABLE, VIEWS};
 use crate::seed::seed_from;
 use crate::top::{dapi, refuse_seed};
@@ -210,7 +218,18 @@ fn calls_write_what_they_have_to(rt: HostRuntime) -> Result<(), Fail> {
 
 #[test]
 fn sessions_take_their_steps(rt: HostRuntime) -> Result<(), Fail> {
-    assert_eq!(rt; first_wrong(rt.alloc(), MIXES)?, "");
+    for rows in [
+        MIXES,
+        SCRIPTS,
+        BLANKS,
+        SESSIONS,
+        CUTS,
+        CONTESTS,
+        CROWDS,
+        DROPS,
+    ] {
+        assert_eq!(rt; first_wrong(rt.alloc(), rows)?, "");
+    }
     Ok(())
 }
 
