@@ -218,17 +218,11 @@ fn calls_write_what_they_have_to(rt: HostRuntime) -> Result<(), Fail> {
 
 #[test]
 fn sessions_take_their_steps(rt: HostRuntime) -> Result<(), Fail> {
-    for rows in [
-        MIXES,
-        SCRIPTS,
-        BLANKS,
-        SESSIONS,
-        CUTS,
-        CONTESTS,
-        CROWDS,
-        DROPS,
-    ] {
+    for rows in [MIXES, SCRIPTS, BLANKS, CUTS] {
         assert_eq!(rt; first_wrong(rt.alloc(), rows)?, "");
+    }
+    for rows in [SESSIONS, CONTESTS, CROWDS, DROPS] {
+        assert_eq!(rt; first_wrong_in(rt.alloc(), rows, 1000)?, "");
     }
     Ok(())
 }
