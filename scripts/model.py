@@ -85,7 +85,7 @@ class Task:
     def __init__(self, service, ids, told=""):
         self.keyspace = service.keyspace
         self.store = service.store
-        self.moment = service.moment
+        self.moment = service.now()
         self.ids = ids
         self.told = told
 
@@ -346,15 +346,20 @@ def deleted_status(deleted, more=""):
 # ---- the service ----
 
 class Service:
-    """A keyspace with its store, the time, and the ids that are generated for each session."""
+    """A keyspace with its store, the times that its clock gives, the last one for ever, and the ids that are generated for
+    each session."""
 
-    def __init__(self, collections, keyspace="ks", last=0, moment=0, ids_of=None, fails=0):
+    def __init__(self, collections, keyspace="ks", last=0, moments=(0,), ids_of=None, fails=0):
         told = Told()
         self.store = Store(collections, last, fails)
         self.keyspace = keyspace
-        self.moment = moment
+        self.moments = list(moments)
         self.ids_of = ids_of or (lambda session: told)
         self.ids = self.ids_of(0)
+
+    def now(self):
+        """The time at which a request begins."""
+        return self.moments.pop(0) if len(self.moments) > 1 else self.moments[0]
 
     def reply(self, path, body, told=""):
         """The reply to a request that is served alone; what the program replied, if it is known, tells the ids that it

@@ -13,6 +13,7 @@ mod refusals;
 mod rows;
 mod scripts;
 mod searches;
+mod steps;
 
 use self::changes::{CHANGED, CHANGES, MANY};
 use self::collections::COLLECTIONS;
@@ -28,6 +29,7 @@ use self::refusals::REFUSALS;
 use self::rows::{DELETIONS, REQUESTS, RETURNS, STREAMS, UPDATES, WORDS};
 use self::scripts::{BLANKS, SCRIPTS, SESSIONS};
 use self::searches::{FAULTS, FIRSTS, ORDER, REFUSED, SORTABLE, SORTED, SORTS, UNSORTABLE, VIEWS};
+use self::steps::{STEPS, STEPS_OF_CHANGES};
 use crate::seed::seed_from;
 use crate::top::{dapi, refuse_seed};
 use keeper_mem::MemKeeper;
@@ -221,7 +223,7 @@ fn sessions_take_their_steps(rt: HostRuntime) -> Result<(), Fail> {
     for rows in [MIXES, SCRIPTS, BLANKS, CUTS] {
         assert_eq!(rt; first_wrong(rt.alloc(), rows)?, "");
     }
-    for rows in [SESSIONS, CONTESTS, CROWDS, DROPS] {
+    for rows in [SESSIONS, CONTESTS, CROWDS, DROPS, STEPS, STEPS_OF_CHANGES] {
         assert_eq!(rt; first_wrong_in(rt.alloc(), rows, 1000)?, "");
     }
     Ok(())
