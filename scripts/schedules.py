@@ -1,8 +1,8 @@
 """Random scripts of several sessions for the program and its model, valid and broken."""
 from inputs import PLACES_ASKED, WEIGHTS, Inputs
 
-CHANGES = ['{"$inc":{"n":1}}', '{"$set":{"k":%d}}', '{"$set":{"k":%d}}', '{"$inc":{"n":1},"$set":{"k":%d}}', '{"$max":{"n":%d}}',
-           '{"$push":{"l":%d}}', '{"$addToSet":{"l":%d}}', '{"$unset":{"k":1}}', '{"$pop":{"l":1}}', '{"$mul":{"k":2}}',
+CHANGES = ['{"$inc":{"n":1}}', '{"$set":{"k":%d}}', '{"$set":{"k":%d}}', '{"$inc":{"n":1},"$set":{"k":%d}}',
+           '{"$max":{"n":%d}}', '{"$push":{"l":%d}}', '{"$addToSet":{"l":%d}}', '{"$unset":{"k":1}}', '{"$pop":{"l":1}}', '{"$mul":{"k":2}}',
            '{"$set":{"n":"x"}}', '{"$setOnInsert":{"k":%d}}', '{}']
 BROKEN = [b"hello", b"step", b"step ", b"step 0 ", b"step  0", b"step 00", b"step 01", b"step 16", b"step 0,1", b"step -1",
           b"step x", b"Step 0", b"step 0\t0", b"step 0\r", b"ask", b"ask 0", b"ask 0 ", b"ask 0 /v1/ks/c", b"ask 0 /v1//c {}",
@@ -66,8 +66,9 @@ class Scripts(Inputs):
 
     def request_of_duel(self):
         """One that changes what others change."""
-        bodies = ['{"updateOne":{"update":{"$inc":{"n":1}}}}', '{"updateMany":{"update":{"$inc":{"n":1}}}}',
-                  '{"findOneAndUpdate":{"update":{"$inc":{"n":1}},"sort":{"n":-1}}}', '{"updateOne":{"update":{"$inc":{"n":1}}}}',
+        bodies = ['{"updateOne":{"update":{"$inc":{"n":1}}}}', '{"updateOne":{"update":{"$inc":{"n":1}}}}',
+                  '{"updateMany":{"update":{"$inc":{"n":1}}}}',
+                  '{"findOneAndUpdate":{"update":{"$inc":{"n":1}},"sort":{"n":-1}}}',
                   '{"findOneAndReplace":{"filter":{"_id":1},"replacement":{"n":%d},"options":{"upsert":true}}}']
         rest = ['{"deleteOne":{}}', '{"deleteMany":{}}', '{"findOneAndDelete":{}}', '{"insertOne":{"document":{"_id":1}}}',
                 '{"insertMany":{"documents":[{"_id":1},{"_id":2},{"_id":1}]}}']

@@ -44,7 +44,7 @@ use std::test::Fail;
 const PIECES: [u64; 9] = [1, 7, 47, 48, 49, 96, 144, 1000, 100_000];
 
 // How the objects of a call behave: the most bytes of a read, the read, the write and the keeper's call that fail, the bytes
-// that the sink takes, and the number of the keeper's last write.
+// that the sink takes, the number of the keeper's last write, and how many times the clock gives.
 #[derive(Clone, Copy)]
 struct Settings {
     piece: u64,
@@ -53,6 +53,7 @@ struct Settings {
     room: u64,
     keeper: u64,
     last: u64,
+    ticks: u64,
 }
 
 // A call, and what it has to write.
@@ -71,6 +72,7 @@ fn set(settings: &mut Settings, name: &str, value: u64) {
         "write" => settings.write = value,
         "room" => settings.room = value,
         "keeper" => settings.keeper = value,
+        "ticks" => settings.ticks = value,
         _ => settings.last = value,
     }
 }
@@ -83,6 +85,7 @@ fn settings_of(text: &str) -> Settings {
         room: 1_000_000,
         keeper: 0,
         last: 0,
+        ticks: 1,
     };
     for setting in text.split(' ') {
         if let Some((name, value)) = setting.split_once('=') {
@@ -118,6 +121,17 @@ fn keeper_of(alloc: Global, settings: Settings) -> Result<MemKeeper, AllocError>
     Ok(MemKeeper::new(alloc, fails, last))
 }
 
+// A clock that gives so many times, each a millisecond behind the one before.
+fn clock_of(alloc: Global, ticks: u64) -> Result<ListClock, AllocError> {
+    let mut times = Vec::new(alloc);
+    let mut time = 1_700_000_000_001i64;
+    for _ in 0..ticks {
+        times.push(time)?;
+        time = time.wrapping_add(1);
+    }
+    Ok(ListClock::new(times))
+}
+
 // Makes a row's call over a keeper, and tells whether it writes what it has to.
 fn is_answered(
     alloc: Global,
@@ -132,7 +146,7 @@ fn is_answered(
     let mut source = MemSource::new(input, piece.max(1) as usize, reads_fail);
     let mut sink = MemSink::new(alloc, row.settings.room as usize, writes_fail)?;
     let mut notes = MemSink::new(alloc, 100, Vec::new(alloc))?;
-    let mut clock = ListClock::new(Vec::from_array(alloc, [1_700_000_000_001])?);
+    let mut clock = clock_of(alloc, row.settings.ticks)?;
     let words = words.as_slice();
     let (status, keeper) = dapi(
         alloc,

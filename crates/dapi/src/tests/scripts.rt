@@ -333,6 +333,40 @@ step 2 1 0 1 0 2 0 1 1 0
 2 {"status":{"matchedCount":0,"modifiedCount":0,"upsertedId":"ad465eb7-b318-414f-9c64-cffa244457e7"}}
 writes 10
 ---
+mix --collection=c | ticks=9
+ask 0 /v1/ks/c {"insertOne":{"document":{"_id":1}}}
+ask 0 /v1/ks/c {"updateOne":{"update":{"$currentDate":{"a":true}}}}
+ask 0 /v1/ks/c {"find":
+ask 0 /v1/ks/c {"updateOne":{"filter":{"_id":2},"update":{"$currentDate":{"a":true}},"options":{"upsert":true}}}
+ask 1 /v1/ks/c {"findOneAndUpdate":{"update":{"$currentDate":{"b":true}},"options":{"returnDocument":"after"}}}
+ask 1 /v1/ks/c {"updateMany":{"update":{"$currentDate":{"c":true}}}}
+ask 1 /v1/ks/c {"find":{}}
+step 0 1 0 1 0 1 0 0 0 0 0 1 1 1
+=> 0
+0 {"status":{"insertedIds":[1]}}
+0 {"status":{"matchedCount":1,"modifiedCount":1}}
+0 {"errors":[{"message":"Body is not JSON at byte 8","errorCode":"INVALID_JSON"}]}
+0 {"status":{"matchedCount":0,"modifiedCount":0,"upsertedId":2}}
+1 {"data":{"document":{"_id":1,"b":{"$date":1700000000002}}},"status":{"matchedCount":1,"modifiedCount":1}}
+1 {"status":{"matchedCount":1,"modifiedCount":1}}
+1 {"data":{"documents":[{"_id":1,"b":{"$date":1700000000002},"a":{"$date":1700000000003},"c":{"$date":1700000000004}},{"_id":2,"a":{"$date":1700000000006}}],"nextPageState":null}}
+writes 5
+---
+mix --collection=c | ticks=3
+ask 0 /v1/ks {"findCollections":{}}
+ask 0 /v1/ks/c {"find":
+ask 1 /v1/ks/c {"updateOne":{"filter":{"_id":1},"update":{"$currentDate":{"a":true}},"options":{"upsert":true}}}
+ask 1 /v1/ks/c {"updateOne":{"filter":{"_id":2},"update":{"$currentDate":{"a":true}},"options":{"upsert":true}}}
+ask 1 /v1/ks/c {"find":{}}
+step 1 0 1
+=> 0
+0 {"status":{"collections":["c"]}}
+0 {"errors":[{"message":"Body is not JSON at byte 8","errorCode":"INVALID_JSON"}]}
+1 {"status":{"matchedCount":0,"modifiedCount":0,"upsertedId":1}}
+1 {"status":{"matchedCount":0,"modifiedCount":0,"upsertedId":2}}
+1 {"data":{"documents":[{"_id":1,"a":{"$date":1700000000001}},{"_id":2,"a":{"$date":1700000000003}}],"nextPageState":null}}
+writes 2
+---
 mix --collection=c | last=4
 ask 0 /v1/ks/c {"insertOne":{"document":{"_id":1}}}
 ask 0 /v1/ks/c {"insertOne":{"document":{}}}
