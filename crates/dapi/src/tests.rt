@@ -433,6 +433,27 @@ fn long_body(alloc: Global) -> Result<String, Fail> {
     Ok(text)
 }
 
+// One row: a mix whose replies are written one piece behind the other.
+fn long_mix(alloc: Global) -> Result<String, Fail> {
+    let mut text = String::from_str(alloc, "mix --collection=c | piece=4096\n")?;
+    let letters = vec![in alloc; b'x'; 7000]?;
+    let letters = str::from_utf8(letters.as_slice()).unwrap_or("");
+    text.push_str("ask 0 /v1/ks/c {\"insertOne\":{\"document\":{\"_id\":1,\"t\":\"")?;
+    text.push_str(letters)?;
+    text.push_str("\"}}}\n")?;
+    for _ in 0..20 {
+        text.push_str("ask 1 /v1/ks/c {\"findOne\":{}}\n")?;
+    }
+    text.push_str("step 0\n=> 0\n0 {\"status\":{\"insertedIds\":[1]}}\n")?;
+    for _ in 0..20 {
+        text.push_str("1 {\"data\":{\"document\":{\"_id\":1,\"t\":\"")?;
+        text.push_str(letters)?;
+        text.push_str("\"}}}\n")?;
+    }
+    text.push_str("writes 1\n")?;
+    Ok(text)
+}
+
 #[test]
 fn many_are_changed_on_several_pages(rt: HostRuntime) -> Result<(), Fail> {
     let alloc = rt.alloc();
@@ -458,6 +479,7 @@ fn bounds_are_kept(rt: HostRuntime) -> Result<(), Fail> {
         many_counted(alloc)?,
         many_collections(alloc)?,
         long_body(alloc)?,
+        long_mix(alloc)?,
     ] {
         let keeper = MemKeeper::new(alloc, Vec::new(alloc), 0);
         assert_eq!(rt; first_wrong_over(alloc, keeper, text.as_str())?, "");
