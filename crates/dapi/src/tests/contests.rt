@@ -264,4 +264,62 @@ step 0 0 1 0 1
 1 {"data":{"document":{"_id":"a","at":{"$date":1700000000001},"by":[1]}},"status":{"matchedCount":1,"modifiedCount":1}}
 writes 3
 ---
+mix --collection=c
+ask 0 /v1/ks/c {"insertOne":{"document":{"_id":"a"}}}
+ask 0 /v1/ks/c {"deleteOne":{}}
+ask 1 /v1/ks/c {"deleteOne":{}}
+ask 2 /v1/ks/c {"findOneAndDelete":{}}
+ask 3 /v1/ks/c {"deleteMany":{}}
+step 0 0 1 2 3 3 2 1 0
+=> 0
+0 {"status":{"insertedIds":["a"]}}
+0 {"status":{"deletedCount":0}}
+1 {"status":{"deletedCount":0}}
+2 {"data":{"document":null},"status":{"deletedCount":0}}
+3 {"status":{"deletedCount":1}}
+writes 2
+---
+mix --collection=c
+ask 0 /v1/ks/c {"insertOne":{"document":{"_id":"a","n":0}}}
+ask 0 /v1/ks/c {"findOneAndDelete":{"sort":{"n":1}}}
+ask 1 /v1/ks/c {"findOneAndUpdate":{"update":{"$inc":{"n":1}}}}
+ask 1 /v1/ks/c {"findOneAndReplace":{"replacement":{"n":9}}}
+ask 1 /v1/ks/c {"updateMany":{"update":{"$inc":{"n":1}}}}
+ask 1 /v1/ks/c {"deleteMany":{}}
+ask 1 /v1/ks/c {"findOneAndUpdate":{"filter":{"_id":"a"},"update":{"$inc":{"n":1}},"options":{"upsert":true}}}
+step 0 0 1 1 0 0 1 1 0 0 1 1 0 0 1 1 0
+=> 0
+0 {"status":{"insertedIds":["a"]}}
+0 {"errors":[{"message":"Lost to other writers: 1>2, 2>3, 3>4, 4>gone","errorCode":"CONCURRENCY_FAILURE"}]}
+1 {"data":{"document":{"_id":"a","n":0}},"status":{"matchedCount":1,"modifiedCount":1}}
+1 {"data":{"document":{"_id":"a","n":1}},"status":{"matchedCount":1,"modifiedCount":1}}
+1 {"status":{"matchedCount":1,"modifiedCount":1}}
+1 {"status":{"deletedCount":1}}
+1 {"data":{"document":null},"status":{"matchedCount":0,"modifiedCount":0,"upsertedId":"a"}}
+writes 6
+---
+mix --collection=c
+ask 0 /v1/ks/c {"insertMany":{"documents":[{"_id":1},{"_id":2},{"_id":1},{"_id":3},{"_id":4}]}}
+ask 1 /v1/ks {"deleteCollection":{"name":"c"}}
+step 0 0 0 0 1
+=> 0
+0 {"status":{"insertedIds":[1,2,3]},"errors":[{"message":"Document 1 already exists at version 1","errorCode":"DOCUMENT_ALREADY_EXISTS"},{"message":"Collection c does not exist","errorCode":"COLLECTION_NOT_EXIST"}]}
+1 {"status":{"ok":1}}
+writes 3
+---
+mix --collection=c
+ask 0 /v1/ks/c {"updateOne":{"filter":{"_id":1},"update":{},"options":{"upsert":true}}}
+ask 0 /v1/ks/c {"find":{}}
+ask 1 /v1/ks {"deleteCollection":{"name":"c"}}
+ask 1 /v1/ks {"createCollection":{"name":"c"}}
+ask 2 /v1/ks/c {"findOneAndReplace":{"filter":{"k":2},"replacement":{},"options":{"upsert":true}}}
+step 0 2 1 0 0 2 1
+=> 0
+0 {"errors":[{"message":"Collection c does not exist","errorCode":"COLLECTION_NOT_EXIST"}]}
+0 {"errors":[{"message":"Collection c does not exist","errorCode":"COLLECTION_NOT_EXIST"}]}
+1 {"status":{"ok":1}}
+1 {"status":{"ok":1}}
+2 {"errors":[{"message":"Collection c does not exist","errorCode":"COLLECTION_NOT_EXIST"}]}
+writes 0
+---
 "#;

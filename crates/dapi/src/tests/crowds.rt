@@ -127,6 +127,25 @@ step 0 0 0 0 0 1 1 0 0 0 1 0
 writes 8
 ---
 mix --collection=c
+ask 0 /v1/ks/c {"insertMany":{"documents":[{"_id":1,"n":1},{"_id":2,"n":1},{"_id":3,"n":1}]}}
+ask 0 /v1/ks/c {"deleteMany":{}}
+ask 1 /v1/ks/c {"updateOne":{"filter":{"_id":2},"update":{"$inc":{"n":1}}}}
+ask 1 /v1/ks/c {"updateOne":{"filter":{"_id":2},"update":{"$inc":{"n":1}}}}
+ask 1 /v1/ks/c {"updateOne":{"filter":{"_id":2},"update":{"$inc":{"n":1}}}}
+ask 1 /v1/ks/c {"updateOne":{"filter":{"_id":2},"update":{"$inc":{"n":1}}}}
+ask 1 /v1/ks/c {"find":{}}
+step 0 0 0 0 0 1 1 0 0 1 1 0 0 1 1 0 0 1 1 0
+=> 0
+0 {"status":{"insertedIds":[1,2,3]}}
+0 {"status":{"deletedCount":1},"errors":[{"message":"Lost to other writers: 2>5, 5>6, 6>7, 7>8","errorCode":"CONCURRENCY_FAILURE"}]}
+1 {"status":{"matchedCount":1,"modifiedCount":1}}
+1 {"status":{"matchedCount":1,"modifiedCount":1}}
+1 {"status":{"matchedCount":1,"modifiedCount":1}}
+1 {"status":{"matchedCount":1,"modifiedCount":1}}
+1 {"data":{"documents":[{"_id":2,"n":5},{"_id":3,"n":1}],"nextPageState":null}}
+writes 8
+---
+mix --collection=c
 ask 0 /v1/ks/c {"insertMany":{"documents":[{"_id":0},{"_id":1},{"_id":2},{"_id":3},{"_id":4},{"_id":5},{"_id":6},{"_id":7},{"_id":8},{"_id":9},{"_id":10},{"_id":11},{"_id":12},{"_id":13},{"_id":14},{"_id":15},{"_id":16},{"_id":17},{"_id":18},{"_id":19},{"_id":20}]}}
 step 0 0 0 0 0 0 0 0 0 0 0 0 0 0 0 0 0 0 0 0 0
 ask 0 /v1/ks/c {"deleteMany":{}}
@@ -297,6 +316,19 @@ step 0 0 0 0 1 1 1
 1 {"status":{"ok":1}}
 1 {"status":{"insertedIds":[2]}}
 writes 6
+---
+mix --collection=c
+ask 0 /v1/ks/c {"insertMany":{"documents":[{"_id":1},{"_id":2}]}}
+ask 0 /v1/ks/c {"deleteMany":{}}
+ask 1 /v1/ks {"deleteCollection":{"name":"c"}}
+ask 1 /v1/ks {"createCollection":{"name":"c"}}
+step 0 0 0 0 1
+=> 0
+0 {"status":{"insertedIds":[1,2]}}
+0 {"status":{"deletedCount":1},"errors":[{"message":"Collection c does not exist","errorCode":"COLLECTION_NOT_EXIST"}]}
+1 {"status":{"ok":1}}
+1 {"status":{"ok":1}}
+writes 3
 ---
 mix --collection=c
 ask 0 /v1/ks/c {"insertOne":{"document":{"_id":1}}}

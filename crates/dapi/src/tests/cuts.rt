@@ -99,6 +99,17 @@ step 0 1 2 1
 2 {"status":{"collections":["c","d"]}}
 writes 0
 ---
+mix --collection=c | keeper=7
+ask 0 /v1/ks/c {"insertMany":{"documents":[{"_id":1},{"_id":2}]}}
+ask 0 /v1/ks/c {"deleteMany":{}}
+ask 1 /v1/ks/c {"find":{}}
+step 0 0 0 0 0 1
+=> 0
+0 {"status":{"insertedIds":[1,2]}}
+0 {"status":{"deletedCount":1},"errors":[{"message":"Store fault: 0 then 1","errorCode":"STORE_FAULT"}]}
+1 {"data":{"documents":[{"_id":2}],"nextPageState":null}}
+writes 3
+---
 mix --collection=c | keeper=6
 ask 0 /v1/ks/c {"insertMany":{"documents":[{"_id":1},{"_id":2}]}}
 ask 1 /v1/ks {"deleteCollection":{"name":"c"}}

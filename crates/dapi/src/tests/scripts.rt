@@ -454,4 +454,17 @@ step 0 0 0 1 1 0
 1 {"status":{"matchedCount":1,"modifiedCount":1}}
 writes 3
 ---
+mix --collection=c | last=9223372036854775803
+ask 0 /v1/ks/c {"insertMany":{"documents":[{"_id":1,"k":1},{"_id":2,"k":1}]}}
+ask 0 /v1/ks/c {"updateMany":{"update":{"$set":{"k":2}}}}
+ask 0 /v1/ks/c {"deleteMany":{}}
+ask 1 /v1/ks/c {"find":{}}
+step 0 0 0 0 0 1
+=> 0
+0 {"status":{"insertedIds":[1,2]}}
+0 {"status":{"matchedCount":1,"modifiedCount":1},"errors":[{"message":"No version numbers are left","errorCode":"VERSIONS_SPENT"}]}
+0 {"errors":[{"message":"No version numbers are left","errorCode":"VERSIONS_SPENT"}]}
+1 {"data":{"documents":[{"_id":1,"k":2},{"_id":2,"k":1}],"nextPageState":null}}
+writes 3
+---
 "#;
