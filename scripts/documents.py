@@ -1,4 +1,4 @@
-"""The examples of docs/API.md that stand in its table of refusals."""
+"""The examples of docs/API.md: those that stand in its table of refusals, and the calls that its blocks are."""
 import re
 
 ROW = re.compile(r"^\| `([A-Z_]+)` \|.*\| (`.*`.*) \|$", re.M)
@@ -15,3 +15,12 @@ def refused_examples(text):
 
 def is_refused_so(reply, code, named):
     return reply.endswith('"errorCode":"%s"}]}' % code) and named in reply
+
+
+def called_in(block):
+    """The call that a block of lines is: its command, its input, and what it is to print; or None."""
+    for command, starts in [("run", "/v1/"), ("mix", ("ask ", "step "))]:
+        if block[0].startswith(starts):
+            asked = [line for line in block if line.startswith(starts)]
+            return command, asked, [line for line in block if not line.startswith(starts)]
+    return None

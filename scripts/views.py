@@ -110,12 +110,12 @@ def sort_key(value):
     return scalar_key(value)
 
 
-def sort(keys, documents):
-    """The documents, which stand in the order of their ids, in that of the sort."""
-    documents = list(documents)
+def sort(keys, rows):
+    """Documents with their numbers, which stand in the order of ids, in that of the sort."""
+    rows = list(rows)
     for parts, descends in reversed(keys):
-        documents.sort(key=lambda document: sort_key(value_at(document, parts)), reverse=descends)
-    return documents
+        rows.sort(key=lambda row: sort_key(value_at(row[1], parts)), reverse=descends)
+    return rows
 
 
 # ---- page states ----

@@ -1,6 +1,9 @@
 //! The top call on streams in memory: a table of calls, each with what it writes.
 mod changes;
 mod collections;
+mod contests;
+mod crowds;
+mod cuts;
 mod generated;
 mod mixes;
 mod ones;
@@ -8,10 +11,15 @@ mod pages;
 mod puts;
 mod refusals;
 mod rows;
+mod scripts;
 mod searches;
+mod steps;
 
 use self::changes::{CHANGED, CHANGES, MANY};
 use self::collections::COLLECTIONS;
+use self::contests::CONTESTS;
+use self::crowds::{CROWDS, DROPS};
+use self::cuts::CUTS;
 use self::generated::GENERATED;
 use self::mixes::MIXES;
 use self::ones::ONES;
@@ -19,7 +27,9 @@ use self::pages::{OPTIONS, PAGES, STATES};
 use self::puts::{INSERTIONS, UPSERTS};
 use self::refusals::REFUSALS;
 use self::rows::{DELETIONS, REQUESTS, RETURNS, STREAMS, UPDATES, WORDS};
+use self::scripts::{BLANKS, SCRIPTS, SESSIONS};
 use self::searches::{FAULTS, FIRSTS, ORDER, REFUSED, SORTABLE, SORTED, SORTS, UNSORTABLE, VIEWS};
+use self::steps::{STEPS, STEPS_OF_CHANGES};
 use crate::seed::seed_from;
 use crate::top::{dapi, refuse_seed};
 use keeper_mem::MemKeeper;
@@ -34,7 +44,7 @@ use std::test::Fail;
 const PIECES: [u64; 9] = [1, 7, 47, 48, 49, 96, 144, 1000, 100_000];
 
 // How the objects of a call behave: the most bytes of a read, the read, the write and the keeper's call that fail, the bytes
-// that the sink takes, and the number of the keeper's last write.
+// that the sink takes, the number of the keeper's last write, and how many times the clock gives.
 #[derive(Clone, Copy)]
 struct Settings {
     piece: u64,
@@ -43,6 +53,7 @@ struct Settings {
     room: u64,
     keeper: u64,
     last: u64,
+    ticks: u64,
 }
 
 // A call, and what it has to write.
@@ -61,6 +72,7 @@ fn set(settings: &mut Settings, name: &str, value: u64) {
         "write" => settings.write = value,
         "room" => settings.room = value,
         "keeper" => settings.keeper = value,
+        "ticks" => settings.ticks = value,
         _ => settings.last = value,
     }
 }
@@ -73,6 +85,7 @@ fn settings_of(text: &str) -> Settings {
         room: 1_000_000,
         keeper: 0,
         last: 0,
+        ticks: 1,
     };
     for setting in text.split(' ') {
         if let Some((name, value)) = setting.split_once('=') {
@@ -108,6 +121,17 @@ fn keeper_of(alloc: Global, settings: Settings) -> Result<MemKeeper, AllocError>
     Ok(MemKeeper::new(alloc, fails, last))
 }
 
+// A clock that gives so many times, each a millisecond behind the one before.
+fn clock_of(alloc: Global, ticks: u64) -> Result<ListClock, AllocError> {
+    let mut times = Vec::new(alloc);
+    let mut time = 1_700_000_000_001i64;
+    for _ in 0..ticks {
+        times.push(time)?;
+        time = time.wrapping_add(1);
+    }
+    Ok(ListClock::new(times))
+}
+
 // Makes a row's call over a keeper, and tells whether it writes what it has to.
 fn is_answered(
     alloc: Global,
@@ -122,7 +146,7 @@ fn is_answered(
     let mut source = MemSource::new(input, piece.max(1) as usize, reads_fail);
     let mut sink = MemSink::new(alloc, row.settings.room as usize, writes_fail)?;
     let mut notes = MemSink::new(alloc, 100, Vec::new(alloc))?;
-    let mut clock = ListClock::new(Vec::from_array(alloc, [1_700_000_000_001])?);
+    let mut clock = clock_of(alloc, row.settings.ticks)?;
     let words = words.as_slice();
     let (status, keeper) = dapi(
         alloc,
@@ -210,7 +234,12 @@ fn calls_write_what_they_have_to(rt: HostRuntime) -> Result<(), Fail> {
 
 #[test]
 fn sessions_take_their_steps(rt: HostRuntime) -> Result<(), Fail> {
-    assert_eq!(rt; first_wrong(rt.alloc(), MIXES)?, "");
+    for rows in [MIXES, SCRIPTS, BLANKS, CUTS] {
+        assert_eq!(rt; first_wrong(rt.alloc(), rows)?, "");
+    }
+    for rows in [SESSIONS, CONTESTS, CROWDS, DROPS, STEPS, STEPS_OF_CHANGES] {
+        assert_eq!(rt; first_wrong_in(rt.alloc(), rows, 1000)?, "");
+    }
     Ok(())
 }
 
@@ -404,6 +433,27 @@ fn long_body(alloc: Global) -> Result<String, Fail> {
     Ok(text)
 }
 
+// One row: a mix whose replies are written one piece behind the other.
+fn long_mix(alloc: Global) -> Result<String, Fail> {
+    let mut text = String::from_str(alloc, "mix --collection=c | piece=4096\n")?;
+    let letters = vec![in alloc; b'x'; 7000]?;
+    let letters = str::from_utf8(letters.as_slice()).unwrap_or("");
+    text.push_str("ask 0 /v1/ks/c {\"insertOne\":{\"document\":{\"_id\":1,\"t\":\"")?;
+    text.push_str(letters)?;
+    text.push_str("\"}}}\n")?;
+    for _ in 0..20 {
+        text.push_str("ask 1 /v1/ks/c {\"findOne\":{}}\n")?;
+    }
+    text.push_str("step 0\n=> 0\n0 {\"status\":{\"insertedIds\":[1]}}\n")?;
+    for _ in 0..20 {
+        text.push_str("1 {\"data\":{\"document\":{\"_id\":1,\"t\":\"")?;
+        text.push_str(letters)?;
+        text.push_str("\"}}}\n")?;
+    }
+    text.push_str("writes 1\n")?;
+    Ok(text)
+}
+
 #[test]
 fn many_are_changed_on_several_pages(rt: HostRuntime) -> Result<(), Fail> {
     let alloc = rt.alloc();
@@ -429,6 +479,7 @@ fn bounds_are_kept(rt: HostRuntime) -> Result<(), Fail> {
         many_counted(alloc)?,
         many_collections(alloc)?,
         long_body(alloc)?,
+        long_mix(alloc)?,
     ] {
         let keeper = MemKeeper::new(alloc, Vec::new(alloc), 0);
         assert_eq!(rt; first_wrong_over(alloc, keeper, text.as_str())?, "");
