@@ -15,3 +15,4 @@ pub mod Script
 pub mod Play
 pub mod Mix
 pub mod Scripted
+pub mod Players

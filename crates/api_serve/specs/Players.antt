@@ -10,8 +10,8 @@ use Rattle.store_core.specs.Store.{Stored}
 use Rattle.store_core.specs.declared.entry.Entry.{Entry}
 use Rattle.cmd_tasks.specs.Ids.{begins, stream_of_ids}
 use Rattle.cmd_tasks.specs.Moves.{accepted_by}
-use Rattle.cmd_tasks.specs.Session.{Exchange, IsSession, AreSessions}
-use Rattle.cmd_tasks.specs.Stands.{StandsOn, exchange}
+use Rattle.cmd_tasks.specs.Session.{Exchange, IsSession, AreSessions, IsAnswered}
+use Rattle.cmd_tasks.specs.Stands.{StandsOn, IsSame, Adds, exchange}
 use Rattle.cmd_tasks.specs.declared.task.Task.{Task}
 use Rattle.api_serve.specs.Session.{AreTraces, AreDrawn, stream_behind}
 use Rattle.api_serve.specs.Play.{Player, Standing, begun_by, IsDone, GetsStep, GetSteps, Works}
@@ -49,6 +49,18 @@ AreHeld start H seed base k [] [] = ⊤
 AreHeld start H seed base k [] (p ∷ players) = ⊥
 AreHeld start H seed base k (held ∷ others) [] = ⊥
 AreHeld start H seed base k (held ∷ others) (p ∷ players) = IsHeld start H k (begins seed base k) held p × AreHeld start H seed base (k + 1) others players
+
+-- A step of a task: it goes on and stands on the longer history, or is served; what else is held stays
+pub record StepsTask (start : Option State) (H H' : List Entry) (low high : ℕ) (held held' : Held) (task : Task) : Type 0 where
+  pub later : Task
+  pub same : IsSame task later
+  pub adds : Adds task.session low high H H' task.trace.items.items later.trace.items.items
+  pub rest : (held'.session ≡ held.session) × (held'.ids ≡ held.ids) × (held'.left.items ≡ held.left.items)
+  pub then : ((held'.task ≡ Some later) × StandsOn start H' later × (held'.replies.items ≡ held.replies.items) × (held'.traces.items ≡ held.traces.items))
+      ⊎ ((reply : Reply) × (held'.task ≡ None) × ForSome start (λ base. IsAnswered base H' task.session (exchange later reply))
+      × (held'.replies.items ≡ held.replies.items ++ reply ∷ []) × (held'.traces.items ≡ held.traces.items ++ later.trace ∷ []))
+  pub room : vec_capacity held.replies ≤ vec_capacity held'.replies
+  pub room_for_traces : vec_capacity held.traces ≤ vec_capacity held'.traces
 
 -- the sessions stand as they are held, and have made the exchanges that they have begun
 pub record AreStanding (start : Option State) (seed : List ℕ) (base first : ℕ) (held : List Held) (s : Standing) : Type 0 where

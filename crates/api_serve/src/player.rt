@@ -1,4 +1,11 @@
 //! A session of a mix, whose requests are served step by step.
+ghost use Rattle.std.specs.Prelude.{◌≡◌, ◌++◌, ◌∷◌, ◌<◌, ◌≤◌, [], None, Some, length, vec_capacity};
+ghost use Rattle.store_core.specs.Counts.{opened_in};
+ghost use Rattle.store_core.specs.Growth.{Grows};
+ghost use Rattle.store_core.specs.Store.{IsLawful, SameBase};
+ghost use Rattle.cmd_tasks.specs.Stands.{StandsOn};
+ghost use Rattle.api_serve.specs.Players.{StepsTask};
+
 use crate::one::{Answered, Begun, begin};
 use cmd_tasks::{Ids, Next, Served, Task, Trace};
 use col_keeper::Keeper;
@@ -63,13 +70,29 @@ impl Player {
     }
 
     // Keeps what a request that was served is answered.
-    fn keep(&mut self, reply: Reply, trace: Trace) {
+    fn keep(&mut self, reply: Reply, trace: Trace)
+        requires { (length self.old.replies.items < vec_capacity self.old.replies) × (length self.old.traces.items < vec_capacity self.old.traces) }
+        ensures replies { self.new.replies.items ≡ self.old.replies.items ++ reply ∷ [] }
+        ensures traces { self.new.traces.items ≡ self.old.traces.items ++ trace ∷ [] }
+        ensures room { (vec_capacity self.old.replies ≤ vec_capacity self.new.replies) × (vec_capacity self.old.traces ≤ vec_capacity self.new.traces) }
+        ensures rest { (self.new.session ≡ self.old.session) × (self.new.ids ≡ self.old.ids) × (self.new.left ≡ self.old.left) × (self.new.task ≡ self.old.task) }
+    {
         self.replies.push_reserved(reply);
         self.traces.push_reserved(trace);
     }
 
     // Makes one step of a task.
-    fn step_task<K: Keeper>(&mut self, alloc: Global, store: &mut Store<K>, task: Task) {
+    fn step_task<K: Keeper>(&mut self, alloc: Global, store: &mut Store<K>, task: Task)
+        requires free { self.old.task ≡ None }
+        requires room { (length self.old.replies.items < vec_capacity self.old.replies) × (length self.old.traces.items < vec_capacity self.old.traces) }
+        requires known { task.session < opened_in store.old.journal }
+        requires stands { StandsOn store.old.start store.old.journal task }
+        ensures steps { StepsTask store.old.start store.old.journal store.new.journal (K.failed store.old.keeper) (K.failed store.new.keeper) self.old self.new task }
+        ensures base { SameBase store.old store.new }
+        ensures grows { Grows (Some task.session) store.old.journal store.new.journal }
+        ensures faults { K.failed store.old.keeper ≤ K.failed store.new.keeper }
+        ensures lawful { IsLawful store.new }
+    {
         let mut task = task;
         match task.step(alloc, store) {
             Next::More => self.task = Some(task),
