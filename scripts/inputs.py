@@ -1,266 +1,47 @@
 """Random input for the program and its model: lines of requests, valid and broken."""
-import base64
+import re
 
 import model
 import views
-from values import PLACES, RANGE, Date, Number, quoted
+from commands import ON_COLLECTIONS, OPTIONS, ROWS
+from generated import FORM
+from pieces import UNFIT, Pieces
+from values import PLACES, Number, quoted
 
-NAMES = ["_id", "a", "b", "k", "n", "tags", "a-b", "a b", "", "$date", "$x", "x" * 100, "x" * 101, "é", "0", "1", "10"]
-TEXTS = ["", "a", "b", "x", "ab", "é", "\u20ac", "\U0001F600", "\"", "\\", "/", "\b\f\n\r\t", "\x01", "\x7f", "a" * 14,
-         "a" * 15, "a" * 22, "a" * 23, "\n" * 9, "y" * 300]
-NUMERALS = ["0", "-0", "1", "-1", "2", "1.5", "1.50", "10e-19", "1e-18", "1e-19", "1e3", "1E+3", "0e999", "0.0e-999",
-            "99999999999999999999", "99999999999999999999.999999999999999999", "100000000000000000000", "1e20", "1e19",
-            "-1e20", "0.000000000000000001", "0.0000000000000000010", "0.0000000000000000001", "123456789012345678",
-            "1234567890123456789", "9223372036854775807", "9223372036854775808", "-9223372036854775808",
-            "-9223372036854775809", "1e99999999999999999999", "0.1e1", "00", "01", "1.", ".5", "-", "+1", "1e", "1e+"]
+# How often a command comes in an input of each kind.
+WEIGHTS = {
+    "even": dict(insertOne=6, insertMany=3, findOne=4, find=7, countDocuments=3, updateOne=5, updateMany=4, deleteOne=1,
+                 deleteMany=1, findOneAndUpdate=4, findOneAndReplace=4, findOneAndDelete=1, createCollection=1,
+                 findCollections=1, deleteCollection=0.3),
+    "filling": dict(insertOne=32, insertMany=2, findOne=4, countDocuments=1, updateOne=4, updateMany=1, deleteOne=1),
+    "searches": dict(insertOne=4, findOne=8, find=36, countDocuments=4, updateOne=6, updateMany=2, deleteOne=1,
+                     findOneAndUpdate=2, findOneAndReplace=1),
+    "changes": dict(insertOne=8, insertMany=1, findOne=1, find=4, countDocuments=2, updateOne=2, updateMany=24, deleteOne=2,
+                    deleteMany=2, findOneAndUpdate=1, findOneAndDelete=1),
+    "ones": dict(insertOne=4, insertMany=2, findOne=2, find=4, countDocuments=1, updateOne=7, updateMany=5, deleteOne=2,
+                 deleteMany=1, findOneAndUpdate=9, findOneAndReplace=9, findOneAndDelete=4),
+    "insertions": dict(insertOne=3, insertMany=20, find=4, countDocuments=1, updateOne=1, deleteMany=3, deleteOne=3),
+    "collections": dict(insertOne=8, insertMany=3, findOne=2, find=3, countDocuments=2, updateOne=4, updateMany=2, deleteOne=1,
+                        deleteMany=1, findOneAndUpdate=1, findOneAndReplace=1, findOneAndDelete=1, createCollection=10,
+                        findCollections=5, deleteCollection=8)}
+KINDS = ["even", "even", "searches", "changes", "changes", "ones", "ones", "insertions", "collections"]
 
-SORTED = ["n", "n", "a", "b", "k", "tags", "_id", "a.b", "tags.0", "k.a", "zz", "zz.n", "a.a"]
-SHOWN = ["a", "b", "k", "n", "tags", "a.a", "a.b", "a.b.k", "k.a", "tags.0", "tags.a", "zz", "b.a.a"]
-NO_PATHS = ["", "a..b", "a b", "$x", "a.", "x" * 101, "_id.a"]
-GIVEN = [0, 1, 19, 20, 40, 100, 2 ** 31, 2 ** 63 - 21, 2 ** 63 - 20, 2 ** 63 - 1, 2 ** 63, 2 ** 64 - 1]
-LAST = [True, False, None, "a", "d", "d5", "\u00e9", "x" * 300, Number(0), Number(RANGE - 1), Number(1 - RANGE),
-        Number(-1), Date(0), Date(-1), Date(2 ** 63 - 1), Date(-2 ** 63)]
-# Bytes that are no key of an id.
-NO_KEYS = [b"", b"\x01", b"\x01\xff", b"\x00", b"\x06", b"\x01a\x80", b"\x02" + b"\xff" * 16, b"\x02" + b"\x80" * 15,
-           b"\x02" + (RANGE + 2 ** 127).to_bytes(16, "big"), b"\x03", b"\x03\x02", b"\x04\x00", b"\x05" + b"\x80" * 7]
+# The collections that requests ask for, most often the first ones; of some kinds of input all as often.
+PLACES_ASKED = ["c"] * 40 + ["d"] * 6 + ["zz", "e"]
+PLACES_MADE = ["c", "c", "d", "e", "f", "g_1", "H", "n0", "n1", "n50", "x" * 48]
+NO_NAMES = ["9c", "", "a b", "a-b", "_a", "\u00e9", "x" * 49, "c/d", "$c"]
 
 
-class Inputs:
+class Inputs(Pieces):
     def __init__(self, rng):
-        self.rng = rng
+        super().__init__(rng)
         # Pages that another one follows, each with its state and what was asked for: of find its filter and its limit, of
         # updateMany its filter and its update.
         self.pages = {"find": [], "updateMany": []}
         self.asked = None
+        self.places = PLACES_ASKED
 
-    def blank(self):
-        return self.rng.choice(["", "", "", "", " ", "\t", "\r", "  "])
-
-    def numeral(self):
-        if self.rng.random() < 0.4:
-            return self.rng.choice(NUMERALS)
-        digits = "".join(self.rng.choice("0123456789") for _ in range(self.rng.randint(1, 22))).lstrip("0") or "0"
-        fraction = "." + "".join(self.rng.choice("0123456789") for _ in range(self.rng.randint(1, 20)))
-        exponent = self.rng.choice("eE") + self.rng.choice(["", "+", "-"]) + str(self.rng.randint(0, 25))
-        return (self.rng.choice(["", "-"]) + digits + (fraction if self.rng.random() < 0.4 else "")
-                + (exponent if self.rng.random() < 0.2 else ""))
-
-    def quoted(self, text):
-        if self.rng.random() < 0.9:
-            return quoted(text)
-        units = text.encode("utf-16-be")
-        codes = ["\\u%02x%02X" % (units[i], units[i + 1]) for i in range(0, len(units), 2)]
-        return '"' + "".join(codes) + '"'
-
-    def text(self):
-        if self.rng.random() < 0.02:
-            return self.rng.choice(['"\\ud800"', '"\\udc00"', '"\\ud800\\u0041"', '"a', '"\\x"', '"\x01"', '"\\u12"'])
-        return self.quoted(self.rng.choice(TEXTS))
-
-    def value(self, deep):
-        pick = self.rng.random()
-        if deep > 0 and pick < 0.2:
-            return self.object(deep - 1)
-        if deep > 0 and pick < 0.35:
-            items = [self.value(deep - 1) for _ in range(self.rng.choice([0, 1, 2, 3, 9]))]
-            return "[" + self.blank() + ("," + self.blank()).join(items) + self.blank() + "]"
-        if pick < 0.4:
-            return '{"$date":%s}' % self.numeral()
-        if pick < 0.6:
-            return self.numeral()
-        if pick < 0.75:
-            return self.rng.choice(["true", "false", "null", "tru", "nulll", "True"] if pick < 0.62 else ["true", "false", "null"])
-        return self.text()
-
-    def object(self, deep, names=None):
-        count = self.rng.choice([0, 1, 2, 3, 5, 40] if self.rng.random() < 0.1 else [0, 1, 1, 2, 3])
-        pairs = []
-        for _ in range(count):
-            name = self.rng.choice(names or NAMES[:7] if self.rng.random() < 0.9 else NAMES)
-            pairs.append(self.quoted(name) + self.blank() + ":" + self.blank() + self.value(deep))
-        return "{" + self.blank() + ("," + self.blank()).join(pairs) + self.blank() + "}"
-
-    def document(self):
-        if self.rng.random() < 0.05:
-            return self.object(3)
-        if self.rng.random() < 0.5:
-            members = self.rng.sample(["a", "b", "k", "n", "tags"], self.rng.randint(1, 5))
-            return '{"_id":%d%s}' % (self.rng.randint(0, 60), "".join(',"%s":%s' % (name, self.plain(2)) for name in members))
-        wanted = self.rng.choice(["%d", '"d%d"', "%d.5", '{"$date":%d}']) % self.rng.randint(0, 60)
-        if self.rng.random() < 0.1:
-            wanted = self.rng.choice(["true", "null", '""', "[1]", "{}", '"\\u0041"', "1.0"])
-        body = self.object(self.rng.randint(0, 4))[1:-1].strip(" \t\r")
-        return '{"_id":' + wanted + ("," + body if body else "") + "}"
-
-    def deep(self):
-        levels = self.rng.choice([13, 14, 15, 16, 28, 29, 30, 31, 32, 40])
-        return "[" * levels + "1" + "]" * levels
-
-    def limits(self):
-        return self.rng.choice([
-            '{"_id":"l%d","t":"%s"}' % (self.rng.randint(0, 9), "x" * self.rng.choice([7_999, 8_000, 8_001])),
-            '{"_id":%d,"l":[%s]}' % (self.rng.randint(0, 9), ",".join(["0"] * self.rng.choice([999, 1_000, 1_001]))),
-            '{"_id":1%s}' % "".join(',"m%d":0' % i for i in range(self.rng.choice([998, 999, 1_000]))),
-            '{"_id":2,"d":%s}' % self.deep(),
-            '{"_id":3%s}' % "".join(',"%s":{%s}' % (c, ",".join('"%d":1' % i for i in range(n))) for c, n in
-                                    [("a", 990), ("b", self.rng.choice([1_000, 1_006, 1_007, 1_008]))]),
-            '{"_id":4,"' + '":{"'.join(["p" * 99] * 10) + '":' + self.rng.choice(['{"q":1}', "1", '{"qq":1}']) + "}" * 10,
-        ])
-
-    def condition(self):
-        pick = self.rng.random()
-        if pick < 0.4:
-            return self.value(1)
-        operator = self.rng.choice(model.OPERATORS + ["$gte", "$in", "$foo", "x", "$and"])
-        operand = self.value(1)
-        if operator in ("$in", "$nin", "$all") and self.rng.random() < 0.9:
-            count = self.rng.choice([0, 1, 2, 3] if self.rng.random() < 0.95 else [100, 101])
-            operand = "[" + ",".join(self.value(0) for _ in range(count)) + "]"
-        if operator == "$exists" and self.rng.random() < 0.9:
-            operand = self.rng.choice(["true", "false"])
-        if operator == "$size" and self.rng.random() < 0.9:
-            operand = self.rng.choice(["0", "1", "2", "3", "1000000", "1000001", "-1", "1.5", "2.0"])
-        return "{" + self.quoted(operator) + ":" + operand + "}"
-
-    def filter(self, deep=2):
-        pairs = []
-        for _ in range(self.rng.choice([0, 1, 1, 1, 2])):
-            pick = self.rng.random()
-            if deep and pick < 0.15:
-                inner = "[" + ",".join(self.filter(deep - 1) for _ in range(self.rng.randint(0, 3))) + "]"
-                pairs.append('"%s":%s' % (self.rng.choice(["$and", "$or"]), inner if pick < 0.14 else "{}"))
-            elif deep and pick < 0.22:
-                pairs.append('"$not":%s' % self.filter(deep - 1))
-            else:
-                path = self.rng.choice(NAMES[:6] + ["a.b", "tags.0", "a.k.n", "tags.10", "a.01", "a..b", "$nor", "a b", "_id"])
-                pairs.append(self.quoted(path) + ":" + self.condition())
-        return "{" + ",".join(pairs) + "}"
-
-    def plain(self, deep):
-        """A value without a fault, mostly a small one."""
-        if deep == 0 or self.rng.random() < 0.6:
-            return self.rng.choice(["0", "1", "2", "-1.5", "1e3", '"a"', '"x"', '"b"', "true", "false", "null", '{"$date":5}'])
-        items = [self.plain(deep - 1) for _ in range(self.rng.choice([0, 1, 2, 3]))]
-        if self.rng.random() < 0.5:
-            return "[" + ",".join(items) + "]"
-        return "{" + ",".join('"%s":%s' % (name, item) for name, item in zip("abk", items)) + "}"
-
-    def form(self, placed):
-        parts = ['"$each":[%s]' % ",".join(self.plain(1) for _ in range(self.rng.choice([0, 1, 2, 3])))]
-        if placed and self.rng.random() < 0.6:
-            parts.append('"$position":' + self.rng.choice(["0", "1", "2", "-1", "-3", "99", "1.0", "1.5", "9223372036854775808"]))
-        if self.rng.random() < 0.05:
-            parts.append(self.rng.choice(['"$slice":1', '"x":1', '"$position":0']))
-        self.rng.shuffle(parts)
-        return "{" + ",".join(parts) + "}"
-
-    def operand(self, operator):
-        pick = self.rng.random()
-        if operator == "$currentDate":
-            return self.rng.choice(["false", "1", "{}"])
-        if pick < 0.04:
-            return self.value(1)
-        if operator in ("$inc", "$mul"):
-            return self.numeral() if pick < 0.3 else self.rng.choice(["1", "-1", "2", "0", "0.5", "-0.25", "1e18", "1e19"])
-        if operator == "$rename":
-            return self.quoted(self.path())
-        if operator == "$pop":
-            return self.rng.choice(["1", "-1", "1.0", "-1", "0"]) if pick < 0.3 else self.rng.choice(["1", "-1"])
-        if operator in ("$push", "$addToSet") and pick < 0.5:
-            return self.form(operator == "$push")
-        return self.plain(0 if operator in ("$min", "$max") else 2)
-
-    def path(self):
-        return self.rng.choice(NAMES[1:6] + ["a.b", "tags.0", "a.k.n", "tags.10", "tags.3.x", "b.c", "n.x", "k.0", "a.999", "a.1000"]
-                               + (["a.01", "a..b", "_id", "_id.x", "a b", ""] if self.rng.random() < 0.1 else []))
-
-    def update(self):
-        operators = self.rng.sample(model.UPDATE_OPERATORS, self.rng.choice([0, 1, 1, 1, 2, 2, 3]))
-        if self.rng.random() < 0.03:
-            operators.append(self.rng.choice(["$near", "a", "$SET", "$currentDate"]))
-        texts = []
-        for operator in operators:
-            count = self.rng.choice([0, 1, 1, 1, 2])
-            clauses = [self.quoted(self.path()) + ":" + self.operand(operator) for _ in range(count)]
-            texts.append('"%s":%s' % (operator, "{" + ",".join(clauses) + "}" if self.rng.random() < 0.99 else "[]"))
-        return "{" + ",".join(texts) + "}"
-
-    def often(self, chance, text):
-        return [text] if self.rng.random() < chance else []
-
-    def sort(self):
-        if self.rng.random() < 0.03:
-            return self.value(1)
-        count = self.rng.choice([1, 1, 1, 2, 2, 3] if self.rng.random() < 0.95 else [0, 8, 9])
-        paths = ["p%d" % i for i in range(count)] if count > 3 else [self.rng.choice(SORTED) for _ in range(count)]
-        if self.rng.random() < 0.03:
-            paths.insert(self.rng.randint(0, count), self.rng.choice(NO_PATHS))
-        wrong = ["1.0", "-1.00", "1e0", "0", "2", "-2", "true", '"1"', "null", "[1]", "1.5"]
-        return "{" + ",".join('%s:%s' % (quoted(path), self.rng.choice(wrong if self.rng.random() < 0.03 else ["1", "-1"]))
-                              for path in paths) + "}"
-
-    def slice(self):
-        numbers = ["0", "1", "2", "3", "-1", "-2", "-9", "1e3", "9223372036854775807", "-9223372036854775808"]
-        wrong = ["9223372036854775808", "-9223372036854775809", "1.5", '"1"', "null", "[]", "[1]", "[1,0]", "[0,-1]", "[1,2,3]"]
-        if self.rng.random() < 0.05:
-            return self.rng.choice(['{"$slice":%s}' % self.rng.choice(wrong), '{"$slice":1,"x":1}', "{}", '{"$size":1}'])
-        operand = self.rng.choice(numbers)
-        if self.rng.random() < 0.5:
-            operand = "[%s,%s]" % (operand, self.rng.choice(["1", "2", "9", "9223372036854775807"]))
-        return '{"$slice":%s}' % operand
-
-    def projection(self):
-        if self.rng.random() < 0.03:
-            return self.value(1)
-        on, off = (["1", "true", "1.0"], ["0", "false", "-0"])
-        usual, other = (on, off) if self.rng.random() < 0.5 else (off, on)
-        pairs = []
-        for path in self.rng.sample(SHOWN, self.rng.choice([0, 1, 1, 2, 2, 3])):
-            pick = self.rng.random()
-            shows = self.slice() if pick < 0.3 else self.rng.choice(
-                usual if pick < 0.96 else other if pick < 0.98 else ["2", "-1", "0.5", '"1"', "null", "[]"])
-            pairs.append(quoted(path) + ":" + shows)
-        if self.rng.random() < 0.3:
-            pairs.append('"_id":' + self.rng.choice(on + off + [self.slice()]))
-        if self.rng.random() < 0.03:
-            pairs.append(quoted(self.rng.choice(NO_PATHS)) + ":1")
-        self.rng.shuffle(pairs)
-        return "{" + ",".join(pairs) + "}"
-
-    def some_id(self):
-        number = self.rng.randint(0, 60)
-        return self.rng.choice(LAST + [Number(number * 10 ** PLACES), "d%d" % number, Date(number)] * 6)
-
-    def state(self):
-        """A page state that no page of this listing gave, or none at all."""
-        pick = self.rng.random()
-        told = self.pages["find"] + self.pages["updateMany"]
-        if pick < 0.3 and told:
-            return self.rng.choice(told)[0]
-        if pick < 0.7:
-            return views.print_state(self.rng.choice(GIVEN), self.some_id())
-        if pick < 0.85:
-            head = self.rng.choice([b"\x01", b"\x01", b"\x01", b"\x00", b"\x02", b""]) + (20).to_bytes(8, "big")
-            key = self.rng.choice(NO_KEYS + [b"\x01a"])
-            return base64.b64encode((head + key)[:self.rng.choice([99, 99, 99, 8, 9, 1])]).decode()
-        text = views.print_state(20, self.some_id())
-        spot = self.rng.randrange(len(text))
-        return self.rng.choice(["", "AA==", "=", text + "=", text.rstrip("="), text[:-1], " " + text, text + "\n", text + "AAAA",
-                                text[:spot] + self.rng.choice("-_ =é/+B") + text[spot + 1:]])
-
-    def bound(self, most):
-        wrong = ["-1", "1.5", "2147483648", '"1"', "null", "true", "[]"]
-        edges = ["0", "1", "20", "21", "2147483647", "2.0", str(most), str(most + 1)]
-        pick = self.rng.random()
-        return self.rng.choice(wrong if pick < 0.04 else edges if pick < 0.4 else [str(self.rng.randint(0, 70))])
-
-    def limit(self):
-        return self.rng.choice([None, None, None, self.bound(40)])
-
-    def loose(self):
-        """A filter that many documents match, or none at all."""
-        return self.rng.choice([None, "{}", '{"_id":{"$ne":"d7"}}', '{"n":{"$exists":true}}', '{"zz":{"$exists":false}}',
-                                '{"a":{"$ne":1}}', self.filter()])
+    # ---- commands ----
 
     def command(self, parts, options):
         if options:
@@ -274,7 +55,31 @@ class Inputs:
         pick, pages = self.rng.random(), self.pages[command]
         if pages and pick < 0.5:
             return self.rng.choice(pages[-3:] if pick < 0.45 else pages)
-        return self.state() if pick > 0.8 else None, *other
+        return self.some_state() if pick > 0.8 else None, *other
+
+    def some_state(self):
+        return self.state([page[0] for pages in self.pages.values() for page in pages])
+
+    def insert_one(self):
+        if self.rng.random() < 0.006:
+            return '{"document":%s}' % self.limits()
+        return '{"document":%s}' % self.document()
+
+    def insert_many(self):
+        """Documents of which some have one id; or as many as there may be, and one more; or something else."""
+        pick = self.rng.random()
+        count = self.rng.choice([1, 2, 3, 5, 9]) if pick < 0.9 else self.rng.choice([20, 99, 100, 101, 101])
+        documents = [self.document(0.95) for _ in range(count)]
+        if count > 9 and pick > 0.92:
+            documents = [self.rng.choice(['{"_id":%d,"k":1}' % self.number(), '{"k":2}', "{}"]) for _ in range(count)]
+        if pick < 0.06:
+            documents[self.rng.randrange(count)] = self.rng.choice(['{"_id":[1]}', '{"_id":""}', '{"a b":1}', '{"":1}',
+                                                                    self.limits(), self.rng.choice(UNFIT)])
+        if self.rng.random() < 0.02:
+            documents[self.rng.randrange(count)] = self.rng.choice(["1", "[]", "null", '{"$date":1}'])
+        listed = "[%s]" % ",".join(documents) if self.rng.random() < 0.98 else self.rng.choice(["[]", "{}", "1", '{"$date":1}'])
+        options = self.often(0.5, '"ordered":' + self.rng.choice(["true", "false"])) + self.often(0.02, '"ordered":null')
+        return self.command(['"documents":' + listed], options)
 
     def page(self):
         """A page of a listing: its first one, one that another one tells of, or one of a state from elsewhere."""
@@ -299,22 +104,8 @@ class Inputs:
         parts = self.often(0.5, '"filter":' + self.filter()) + self.often(0.5, '"projection":' + self.projection())
         parts += self.often(0.5, '"sort":' + self.sort()) + self.often(0.1 * wrong, '"update":{}')
         options = self.often(0.3, '"limit":' + self.bound(20)) + self.often(0.3, '"skip":' + self.bound(480))
-        options += self.often(0.3, '"pageState":' + (self.value(0) if wrong else quoted(self.state())))
+        options += self.often(0.3, '"pageState":' + (self.value(0) if wrong else quoted(self.some_state())))
         return self.command(parts, options + self.often(0.3 * wrong, self.rng.choice(['"x":1', '"upsert":true', '"Limit":1'])))
-
-    def update_one(self):
-        wanted = self.filter() if self.rng.random() < 0.4 else '{"_id":%d}' % self.rng.randint(0, 60)
-        parts = ['"update":' + self.update()] + self.often(0.7, '"filter":' + wanted) + self.often(0.35, '"sort":' + self.sort())
-        return self.command(parts, [])
-
-    def mild(self):
-        """An update that most documents take, and that many of them have taken already."""
-        return self.rng.choice([
-            '{"$set":{"k":%d}}' % self.rng.randint(0, 9), '{"$inc":{"n":%s}}' % self.rng.choice(["1", "-1", "0", "0.5"]),
-            '{"$max":{"n":%d}}' % self.rng.randint(0, 40), '{"$unset":{"%s":1}}' % self.rng.choice("ab"),
-            '{"$addToSet":{"tags":%d}}' % self.rng.randint(0, 3), '{"$push":{"tags":%d}}' % self.rng.randint(0, 3),
-            '{"$pop":{"tags":1}}', '{"$set":{"t.u":"%s"}}' % self.rng.choice("xy"), '{"$rename":{"a":"m"}}',
-            '{"$mul":{"n":2},"$set":{"b":true}}', '{"$setOnInsert":{"k":1}}', '{}'])
 
     def crowded(self):
         """A filter that many documents match, close together or far apart; or a few; or none at all."""
@@ -325,72 +116,130 @@ class Inputs:
             '{"tags":%d}' % self.rng.randint(0, 3), '{"tags":{"$size":%d}}' % self.rng.randint(0, 4), '{"b":true}',
             '{"$or":[{"k":%d},{"_id":%d}]}' % (self.rng.randint(0, 9), number), '{"t.u":{"$ne":"x"}}'])
 
+    def flags(self, command):
+        """The options of a change of one document, or of many."""
+        options = self.often(0.6, '"upsert":' + self.rng.choice(["true", "true", "true", "true", "false"]))
+        if "returnDocument" in OPTIONS[command]:
+            options += self.often(0.6, '"returnDocument":"%s"' % self.rng.choice(["before", "after", "after"]))
+        wrong = ['"limit":1', '"skip":0', '"upsert":1', '"upsert":null', '"returnDocument":"After"', '"returnDocument":true',
+                 '"pageState":1', '"ordered":true']
+        return options + self.often(0.02, self.rng.choice(wrong))
+
+    def wanted_one(self):
+        """A filter for the change of one document, mostly one that few documents match; and the id that it asks for, if any."""
+        pick = self.rng.random()
+        if pick < 0.35:
+            own = self.own_id() if pick < 0.25 else '"u%d"' % self.rng.randint(0, 300)
+            forms = ['{"_id":%s}', '{"_id":%s}', '{"_id":{"$eq":%s}}', '{"$and":[{"k":1},{"_id":%s}]}', '{"_id":%s,"zz.y":1}']
+            return self.rng.choice(forms) % own, own
+        return (self.seed() if pick < 0.75 else self.filter() if pick < 0.9 else self.crowded() or "{}"), None
+
+    def change_one(self, command):
+        wanted, own = self.wanted_one()
+        parts = self.often(0.9, '"filter":' + wanted) + self.often(0.3, '"sort":' + self.sort())
+        if "update" in ROWS[command]:
+            parts += self.often(0.99, '"update":' + (self.update() if self.rng.random() < 0.6 else self.mild()))
+        if "replacement" in ROWS[command]:
+            parts += self.often(0.99, '"replacement":' + self.replacement(own))
+        if "projection" in ROWS[command]:
+            parts += self.often(0.4, '"projection":' + self.projection())
+        return self.command(parts, self.flags(command) if command in OPTIONS else [])
+
     def update_many(self):
-        update = self.mild() if self.rng.random() < 0.7 else self.update()
-        state, wanted, update = self.told("updateMany", (self.crowded(), update))
+        pick = self.rng.random()
+        update = self.mild() if pick < 0.7 else self.update()
+        wanted = self.crowded() if self.rng.random() < 0.8 else self.seed()
+        state, wanted, update = self.told("updateMany", (wanted, update))
         self.asked = "updateMany", wanted, update
         options = ['"pageState":' + quoted(state)] if state is not None else self.often(0.1, '"pageState":null')
-        wrong = self.often(0.02, self.rng.choice(['"limit":1', '"skip":0', '"upsert":true', '"pageState":1']))
+        options += self.flags("updateMany") if self.rng.random() < 0.3 else []
         parts = ['"update":' + update] + (['"filter":' + wanted] if wanted else [])
-        return self.command(parts + self.often(0.02, '"projection":{}'), options + wrong)
+        return self.command(parts + self.often(0.02, '"projection":{}'), options)
 
     def delete_many(self):
         wanted = self.crowded() if self.rng.random() < 0.9 else self.filter()
         return self.command(['"filter":' + wanted] if wanted else [], [])
 
-    def wanted(self, command):
-        pick = self.rng.random()
-        if pick < 0.03:
-            return self.value(1)
-        extra = self.rng.choice(["", "", "", "", "", ',"options":{}', ',"x":1', ',"sort":{}']) if pick < 0.2 else ""
-        if command == "insertOne":
-            return '{"document":' + (self.limits() if pick > 0.995 else self.document()) + extra + "}"
-        if command in ("updateMany", "deleteMany"):
-            text = self.update_many() if command == "updateMany" else self.delete_many()
-            return text[:-1] + (extra if text != "{}" else extra[1:]) + "}"
-        if self.rng.random() < 0.1:
-            return "{" + extra[1:] + "}"
-        if command == "find":
-            return self.rng.choice([self.page, self.page, self.page, self.sorted, self.sorted, self.any_search])()
-        if command == "updateOne":
-            return self.update_one()[:-1] + extra + "}"
+    def on_collections(self, command):
+        if command == "findCollections":
+            return self.rng.choice(["{}"] * 20 + ['{"name":"c"}', '{"name":"9c"}', "[]", '{"options":{}}'])
+        name = self.rng.choice(PLACES_MADE + ["n%d" % self.rng.randint(0, 120)] * 3)
+        if self.rng.random() < 0.06:
+            name = self.rng.choice(NO_NAMES)
+        return self.command(self.often(0.98, '"name":' + quoted(name) if self.rng.random() < 0.98 else '"name":' + self.value(1)),
+                            self.often(0.01, '"x":1'))
+
+    def plain_search(self, command):
         parts = ['"filter":' + self.filter()]
         if command in ("findOne", "deleteOne"):
             parts += self.often(0.5, '"sort":' + self.sort())
         if command == "findOne":
             parts += self.often(0.5, '"projection":' + self.projection())
-        return "{" + ",".join(parts) + extra + "}"
+        return "{" + ",".join(parts) + "}"
+
+    def right(self, command):
+        """The value of a command, mostly a right one."""
+        if command == "find":
+            return self.rng.choice([self.page, self.page, self.page, self.sorted, self.sorted, self.any_search])()
+        if command == "updateOne" or command.startswith("findOneAnd"):
+            return self.change_one(command)
+        if command in ON_COLLECTIONS:
+            return self.on_collections(command)
+        makes = {"insertOne": self.insert_one, "insertMany": self.insert_many, "updateMany": self.update_many,
+                 "deleteMany": self.delete_many}
+        return makes[command]() if command in makes else self.plain_search(command)
+
+    def wanted(self, command):
+        """The value of a command; now and then another one, or one with members that it may not have."""
+        pick = self.rng.random()
+        if pick < 0.02:
+            return self.value(1)
+        if pick < 0.04 and command not in ON_COLLECTIONS:
+            return "{}"
+        text = self.right(command)
+        if pick < 0.15 and text.startswith("{"):
+            extra = self.rng.choice(['"options":{}', '"x":1', '"sort":{}', '"options":1', '"filter":{}', '"update":{}'])
+            text = self.rng.choice([text[:-1] + "," * (text != "{}") + extra + "}", "{" + extra + "," * (text != "{}") + text[1:]])
+        return text
+
+    # ---- lines ----
 
     def body(self, command):
         pick = self.rng.random()
         if pick < 0.02:
             return self.value(2)
         if pick < 0.04:
-            command = self.rng.choice(["explain", "insertone", "Find", "findMany"])
+            command = self.rng.choice(["explain", "insertone", "Find", "findMany", "dropCollection"])
         text = "{" + self.blank() + '"' + command + '":' + self.wanted(command) + self.blank() + "}"
         if pick > 0.95 and len(text) > 1:
             cut = self.rng.randrange(len(text))
             text = text[:cut] + self.rng.choice(["", text[cut + 1:], "," + text[cut:], "\x00" + text[cut:], " "])
         return text
 
+    def place(self, command):
+        """The path of a request, mostly one of its level."""
+        pick = self.rng.random()
+        if pick < 0.05:
+            return self.rng.choice(["/v1/ks/zz", "/v1/ks/9c", "/v1/ot/c", "/v1/ot", "/v1/ks", "/v1/ks/c"])
+        return "/v1/ks" if command in ON_COLLECTIONS else "/v1/ks/" + self.rng.choice(self.places)
+
     def line(self, weights):
         self.asked = None
-        command = self.rng.choices(list(model.ROWS), weights)[0]
-        paths = ["/v1/ks/c", "/v1/ks/d", "/v1/ks/zz", "/v1/ks/9c", "/v1/ot/c", "/v1/ks"]
-        path = self.rng.choices(paths, [80, 13, 2, 1, 2, 2])[0]
-        line = (path + " " + self.body(command)).replace("\n", " ").encode()
+        command = self.rng.choices(list(weights), weights.values())[0]
+        line = (self.place(command) + " " + self.body(command)).replace("\n", " ").encode()
         if self.rng.random() < 0.01:
             line += self.rng.choice([b"\xff", b"\xe2\x82", b"\xed\xa0\x80", b"\xf4\x90\x80\x80"])
         return line
 
-    def keep_page(self, service, line):
-        """Serves a line, and keeps the page that another one follows."""
-        request = model.request_of(line)
-        reply = service.reply(*request) if request else ""
+    def served(self, serve, line):
+        """A line that was served; the page that another one follows is kept, and so are ids that were generated."""
+        reply = serve(line)
         before, found, state = reply.rpartition('"nextPageState":"')
         if self.asked and found:
             command, *rest = self.asked
             self.pages[command].append((state.split('"')[0], *rest))
+        self.generated += re.findall(FORM, reply) if '"insertedIds"' in reply or '"upsertedId"' in reply else []
+        return line
 
     def member_of_crowd(self):
         number = self.rng.randint(0, 150)
@@ -400,30 +249,39 @@ class Inputs:
         tags = "[%s]" % ",".join(tags) if self.rng.random() < 0.99 else self.rng.choice(["[%s]" % ",".join(["0"] * 999), '"t"'])
         parts = ['"k":%d' % self.rng.randint(0, 9)] + self.often(0.9, '"n":%s' % n) + self.often(0.8, '"tags":%s' % tags)
         parts += self.often(0.3, '"a":%s' % self.plain(1)) + self.often(0.3, '"b":true') + self.often(0.2, '"t":{}')
-        return '{"insertOne":{"document":{"_id":%s,%s}}}' % (wanted, ",".join(parts))
+        parts += ['"_id":%s' % wanted] * (self.rng.random() < 0.97)
+        return '{"insertOne":{"document":{%s}}}' % ",".join(parts)
 
-    def crowd(self, service, count):
-        """Many documents that are alike, and changes of many of them, between which other requests come."""
+    def crowd(self, serve, count):
+        """Many documents that are alike."""
         place = self.rng.choices(["c", "d"], [9, 1])[0]
-        lines = []
-        for _ in range(count):
-            lines.append(("/v1/ks/%s %s" % (place, self.member_of_crowd())).encode())
-            self.keep_page(service, lines[-1])
+        return [self.served(serve, ("/v1/ks/%s %s" % (place, self.member_of_crowd())).encode()) for _ in range(count)]
+
+    def many_places(self, serve):
+        """Collections that are made, as many as there may be, or almost; or a few."""
+        count = self.rng.choice([3, 20, 96, 99, 110])
+        return [self.served(serve, b'/v1/ks {"createCollection":{"name":"n%d"}}' % i) for i in range(count)]
+
+    # ---- whole inputs ----
+
+    def requests(self, serve, most):
+        """At most so many requests of all commands, served one behind the other: of one kind, with what it begins with."""
+        count = self.rng.randint(1, most)
+        kind = self.rng.choice(KINDS)
+        self.places = PLACES_MADE if kind == "collections" else PLACES_ASKED
+        lines = self.crowd(serve, self.rng.choice([70, 150, 400])) if kind == "changes" else []
+        lines += self.many_places(serve) if kind == "collections" else []
+        for i in range(count):
+            weights = WEIGHTS["filling" if kind in ("searches", "ones") and i < count // 4 else kind]
+            lines.append(self.served(serve, self.line(weights)))
+            if kind == "changes" and self.rng.random() < 0.1:
+                lines += self.crowd(serve, self.rng.choice([1, 1, 2, 30]))
         return lines
 
     def whole(self):
-        """Lines of all commands; or many insertions and then mostly searches; or a crowd and then mostly changes of many."""
+        """The requests, with lines between them that are none."""
         service = model.Service(["c", "d"])
-        count = self.rng.randint(1, 900)
-        kind = self.rng.choice(["even", "searches", "changes", "changes"])
-        lines = self.crowd(service, self.rng.choice([70, 150, 400])) if kind == "changes" else []
-        for i in range(count):
-            weights = {"even": [4, 4, 8, 4, 4, 3, 1, 1], "many": [32, 0, 4, 0, 4, 1, 1, 0], "searches": [4, 8, 36, 4, 8, 2, 1, 0],
-                       "changes": [8, 1, 4, 2, 2, 24, 2, 2]}
-            lines.append(self.line(weights["many" if kind == "searches" and i < count // 3 else kind]))
-            self.keep_page(service, lines[-1])
-            if kind == "changes" and self.rng.random() < 0.1:
-                lines += self.crowd(service, self.rng.choice([1, 1, 2, 30]))
+        lines = self.requests(lambda line: service.reply(*model.request_of(line)), 900)
         for _ in range(self.rng.randint(0, 4)):
             lines.insert(self.rng.randrange(len(lines) + 1), self.rng.choice([b"", b"\r"]))
         if self.rng.random() < 0.3:
@@ -446,6 +304,9 @@ class Inputs:
                 '{"findOne":{%s,"sort":{%s}}}' % (wanted, keys),
                 '{"updateOne":{%s,"sort":{%s},"update":{"$inc":{"n":1}}}}' % (wanted, keys),
                 '{"deleteOne":{"filter":{"_id":{"$lt":0}},"sort":{%s}}}' % keys,
+                '{"findOneAndUpdate":{%s,"sort":{%s},"update":{"$inc":{"n":1}},"projection":{"t":1}}}' % (wanted, keys),
+                '{"findOneAndReplace":{%s,"sort":{%s},"replacement":{"n":1},"options":{"returnDocument":"after"}}}' % (wanted, keys),
+                '{"findOneAndDelete":{"filter":{"_id":{"$gt":9990},"m":{"$exists":true}},"sort":{%s}}}' % keys,
                 '{"updateMany":{%s,"update":{"$inc":{"n":1}},"options":{"pageState":"%s"}}}' % (wanted, state),
                 '{"updateMany":{"filter":{"_id":{"$in":%s}},"update":{"$set":{"t":1}}}}' % self.rng.sample(range(10_000), 22),
                 '{"deleteMany":{"filter":{"_id":{"$in":%s}}}}' % self.rng.sample(range(10_000, 10_030), 25),

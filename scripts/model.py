@@ -1,357 +1,44 @@
 """A plain model of the service, written from docs/API.md alone: lines in, replies, status and note out.
 
 It is slow and obvious on purpose, shares nothing with the program, and is what `compare-random` holds the program to.
-Values are in values.py, projections, sorts and page states in views.py.
+Values are in values.py, filters in filters.py, updates and replacements in updates.py, projections, sorts and page states
+in views.py, commands and their members in commands.py, generated ids in generated.py.
 """
-import re
-
+import updates
 import views
-from values import (ABSENT, COLLECTION, NAME, PLACES, RANGE, SCALARS, Date, Fault, Members, Number, id_key, judge_document,
-                    kind, limit_fault, names_in, ordered, path_parts, quoted, read, same, scalar_key, size, text_of,
-                    value_at, whole)
+from commands import ON_COLLECTIONS, ROWS, judge_bounds, judge_members, member, option
+from filters import equalities, read_filter
+from generated import Told
+from values import ABSENT, COLLECTION, Fault, Members, id_key, judge_document, judge_names, quoted, read, same, text_of
 
-# ---- filters ----
-
-RANGES = {"$gt": lambda a, b: a > b, "$gte": lambda a, b: a >= b, "$lt": lambda a, b: a < b, "$lte": lambda a, b: a <= b}
-OPERATORS = ["$eq", "$ne", *RANGES, "$in", "$nin", "$exists", "$all", "$size"]
-
-
-def invalid(path):
-    return Fault("INVALID_FILTER_EXPRESSION", f"Filter is invalid at {path}")
-
-
-def read_filter(value, place=""):
-    """A predicate on documents."""
-    if not isinstance(value, Members):
-        raise invalid(place)
-    tests = [read_member(name, inner) for name, inner in value.pairs]
-    return lambda document: all(test(document) for test in tests)
-
-
-def read_member(name, value):
-    if name in ("$and", "$or"):
-        if not isinstance(value, list):
-            raise invalid(name)
-        tests = [read_filter(inner, name) for inner in value]
-        over = all if name == "$and" else any
-        return lambda document: over(test(document) for test in tests)
-    if name == "$not":
-        test = read_filter(value, name)
-        return lambda document: not test(document)
-    if name.startswith("$"):
-        raise Fault("UNSUPPORTED_FILTER_OPERATION", f"Filter operator {name} is not supported")
-    parts = path_parts(name)
-    if parts is None:
-        raise invalid(name)
-    if isinstance(value, Members) and value.pairs and value.pairs[0][0].startswith("$"):
-        tests = [read_operator(name, operator, operand) for operator, operand in value.pairs]
-    else:
-        tests = [read_operator(name, "$eq", value)]
-    return lambda document: all(test(value_at(document, parts)) for test in tests)
-
-
-def equals(found, operand):
-    if found is ABSENT:
-        return False
-    return same(found, operand) or (isinstance(found, list) and any(same(item, operand) for item in found))
-
-
-def read_operator(path, operator, operand):
-    if not operator.startswith("$"):
-        raise invalid(path)
-    if operator not in OPERATORS:
-        raise Fault("UNSUPPORTED_FILTER_OPERATION", f"Filter operator {operator} is not supported")
-    if operator in ("$eq", "$ne"):
-        return lambda found: equals(found, operand) == (operator == "$eq")
-    if operator in RANGES:
-        if kind(operand) not in ("number", "text", "date"):
-            raise invalid(path)
-        return lambda found: (found is not ABSENT and kind(found) == kind(operand)
-                              and RANGES[operator](ordered(found), ordered(operand)))
-    if operator in ("$in", "$nin", "$all"):
-        if not isinstance(operand, list):
-            raise invalid(path)
-        if len(operand) > 100:
-            raise Fault("INVALID_FILTER_EXPRESSION", f"Filter has {len(operand)} operands, at most 100")
-        if operator == "$all":
-            return lambda found: all(equals(found, item) for item in operand)
-        return lambda found: any(equals(found, item) for item in operand) == (operator == "$in")
-    if operator == "$exists":
-        if not isinstance(operand, bool):
-            raise invalid(path)
-        return lambda found: (found is not ABSENT) == operand
-    length = whole(operand, 0, 1_000_000)
-    if length is None:
-        raise invalid(path)
-    return lambda found: isinstance(found, list) and len(found) == length
-
-
-# ---- updates ----
-
-UPDATE_OPERATORS = ["$set", "$unset", "$inc", "$mul", "$min", "$max", "$rename", "$push", "$pop", "$addToSet",
-                    "$setOnInsert", "$currentDate"]
-UPDATE_PARAM = "UNSUPPORTED_UPDATE_OPERATION_PARAM"
-
-
-def storable(value):
-    return all(1 <= size(name) <= 100 and NAME.match(name) for name in names_in(value))
-
-
-def form_of(operand, placed):
-    """(values, place) of an operand of `$push` or `$addToSet`, or None where it is none."""
-    if not (isinstance(operand, Members) and operand.pairs and operand.pairs[0][0].startswith("$")):
-        return ([operand], None) if storable(operand) else None
-    values, place = operand.get("$each"), operand.get("$position")
-    known = ["$each"] + ["$position"] * placed
-    if any(name not in known for name in operand.names()) or not isinstance(values, list) or not all(map(storable, values)):
-        return None
-    if place is ABSENT:
-        return values, None
-    place = whole(place, *views.I64)
-    return None if place is None else (values, place)
-
-
-def good_operand(operator, operand):
-    if operator in ("$set", "$setOnInsert"):
-        return storable(operand)
-    if operator in ("$inc", "$mul"):
-        return isinstance(operand, Number)
-    if operator in ("$min", "$max"):
-        return kind(operand) in SCALARS
-    if operator == "$rename":
-        return isinstance(operand, str) and path_parts(operand) is not None
-    if operator in ("$push", "$addToSet"):
-        return form_of(operand, operator == "$push") is not None
-    if operator == "$pop":
-        return isinstance(operand, Number) and abs(operand.units) == 10 ** PLACES
-    return operand is True if operator == "$currentDate" else True
-
-
-def read_updates(value):
-    """The clauses of an update, in the order in which they are applied: (operator, path, operand)."""
-    for name in value.names():
-        if name not in UPDATE_OPERATORS:
-            raise Fault("UNSUPPORTED_UPDATE_OPERATION", f"Update operator {name} is not supported")
-    clauses = []
-    for operator in UPDATE_OPERATORS:
-        of_paths = value.get(operator)
-        if of_paths is ABSENT:
-            continue
-        if not isinstance(of_paths, Members):
-            raise Fault(UPDATE_PARAM, f"Update operand is invalid for {operator} at ")
-        for path, operand in of_paths.pairs:
-            if path_parts(path) is None or not good_operand(operator, operand):
-                raise Fault(UPDATE_PARAM, f"Update operand is invalid for {operator} at {path}")
-            clauses.append((operator, path, operand))
-    paths = [path for operator, path, operand in clauses for path in [path] + [operand] * (operator == "$rename")]
-    for i, path in enumerate(paths):
-        for earlier in paths[:i]:
-            p, q = path.split("."), earlier.split(".")
-            if p[:len(q)] == q or q[:len(p)] == p:
-                raise Fault(UPDATE_PARAM, f"Update paths conflict: {earlier} and {path}")
-    if any(path.split(".")[0] == "_id" for path in paths):
-        raise Fault("UNSUPPORTED_UPDATE_FOR_DOC_ID", "Field _id is not changeable")
-    return clauses
-
-
-def wrong_target(path):
-    return Fault("UNSUPPORTED_UPDATE_OPERATION_TARGET", f"Update target is of the wrong kind at {path}")
-
-
-def put(value, parts, new, path):
-    """The value with `new` at these parts."""
-    if not parts:
-        return new
-    part, rest = parts[0], parts[1:]
-    if isinstance(value, Members):
-        old = value.get(part)
-        inner = put(Members([]) if old is ABSENT else old, rest, new, path)
-        if old is ABSENT:
-            return Members(value.pairs + [(part, inner)])
-        return Members([(name, inner if name == part else other) for name, other in value.pairs])
-    if not isinstance(value, list) or not re.match(r"(0|[1-9][0-9]*)\Z", part):
-        raise wrong_target(path)
-    place = int(part)
-    if place < len(value):
-        return value[:place] + [put(value[place], rest, new, path)] + value[place + 1:]
-    if place > 999:
-        raise wrong_target(path)
-    return value + [None] * (place - len(value)) + [put(Members([]), rest, new, path)]
-
-
-def take(value, parts):
-    """The value without what stands at these parts: a member is gone, an element is null."""
-    part, rest = parts[0], parts[1:]
-    if isinstance(value, Members):
-        if rest:
-            return Members([(name, take(other, rest) if name == part else other) for name, other in value.pairs])
-        return Members([pair for pair in value.pairs if pair[0] != part])
-    place = int(part)
-    return value[:place] + [take(value[place], rest) if rest else None] + value[place + 1:]
-
-
-def coefficient(units):
-    """(the number without its trailing zeros, how many these are), at most 18 of them."""
-    for zeros in range(PLACES, -1, -1):
-        if units % 10 ** zeros == 0:
-            return units // 10 ** zeros, zeros
-    return units, 0
-
-
-def product(a, b):
-    """The product of two counts of units, or None."""
-    (c, m), (d, n) = coefficient(a), coefficient(b)
-    if abs(c * d) >= RANGE:
-        return None
-    units, rest = divmod(abs(a * b), 10 ** PLACES)
-    return None if rest or units >= RANGE else units if (a < 0) == (b < 0) else -units
-
-
-def put_by(operator, path, operand, found):
-    """What an operator that goes by the value there puts there, or ABSENT."""
-    if operator == "$set":
-        return operand
-    if operator in ("$inc", "$mul"):
-        if found is ABSENT:
-            return operand if operator == "$inc" else Number(0)
-        if not isinstance(found, Number):
-            raise wrong_target(path)
-        units = found.units + operand.units if operator == "$inc" else product(found.units, operand.units)
-        if units is None or abs(units) >= RANGE:
-            raise Fault("NUMBER_OUT_OF_RANGE", f"Number is out of range at {path}")
-        return Number(units)
-    if operator in ("$min", "$max"):
-        if found is ABSENT:
-            return operand
-        if kind(found) not in SCALARS:
-            raise wrong_target(path)
-        less, more = sorted([scalar_key(found), scalar_key(operand)])
-        wanted = scalar_key(operand) == (less if operator == "$min" else more) and less != more
-        return operand if wanted else ABSENT
-    return put_in_list(operator, path, operand, [] if found is ABSENT else found, found is ABSENT)
-
-
-def put_in_list(operator, path, operand, items, is_new):
-    if not isinstance(items, list):
-        raise wrong_target(path)
-    if operator == "$pop":
-        return ABSENT if not items else items[:-1] if operand.units > 0 else items[1:]
-    values, place = form_of(operand, operator == "$push")
-    if operator == "$push":
-        place = len(items) if place is None else min(place, len(items)) if place >= 0 else max(len(items) + place, 0)
-        return items[:place] + values + items[place:]
-    for value in values:
-        if not any(same(value, item) for item in items):
-            items = items + [value]
-    return items
-
-
-def apply_updates(clauses, document, moment):
-    """The new document, where the one that is there is updated at this moment."""
-    for operator, path, operand in clauses:
-        parts = path_parts(path)
-        found = value_at(document, parts)
-        if operator == "$setOnInsert" or (operator in ("$unset", "$rename", "$pop") and found is ABSENT):
-            continue
-        if operator == "$unset":
-            document = take(document, parts)
-        elif operator == "$currentDate":
-            document = put(document, parts, Date(moment), path)
-        elif operator == "$rename":
-            document = put(take(document, parts), path_parts(operand), found, operand)
-        else:
-            new = put_by(operator, path, operand, found)
-            document = document if new is ABSENT else put(document, parts, new, path)
-    broken = limit_fault(document)
-    if broken:
-        raise Fault("SHRED_DOC_LIMIT_VIOLATION", "Document limit %d is %d, found %d" % broken)
-    return document
-
-
-# ---- requests ----
-
-OBJECT = ("object", False)
-ROWS = {"insertOne": {"document": ("object", True)},
-        "findOne": {"filter": OBJECT, "sort": OBJECT, "projection": OBJECT},
-        "find": {"filter": OBJECT, "sort": OBJECT, "projection": OBJECT},
-        "countDocuments": {"filter": OBJECT},
-        "updateOne": {"filter": OBJECT, "update": ("object", True), "sort": OBJECT},
-        "updateMany": {"filter": OBJECT, "update": ("object", True)},
-        "deleteOne": {"filter": OBJECT, "sort": OBJECT},
-        "deleteMany": {"filter": OBJECT}}
-
-
-def is_bound(value):
-    return whole(value, 0, 2 ** 31 - 1) is not None
-
-
-def is_state(value):
-    return value is None or isinstance(value, str)
-
-
-OPTIONS = {"find": {"limit": is_bound, "skip": is_bound, "pageState": is_state},
-           "updateOne": {}, "updateMany": {"pageState": is_state}}
 PAGE = 20
+MOST_COUNTED = 1_000
 MOST_GIVEN = 2 ** 63 - 1
 MOST_SORTED = 10_000
+MOST_COLLECTIONS = 100
+DOUBLE = "DOCUMENT_ALREADY_EXISTS"
 
 
-def refuse_field(field):
-    raise Fault("COMMAND_FIELD_INVALID", f"Command field invalid: {field}")
-
-
-def member(value, name):
-    """The member of this name, or an empty object."""
-    found = value.get(name)
-    return Members([]) if found is ABSENT else found
-
-
-def count_of(value):
-    return 0 if value is ABSENT else whole(value, 0, 2 ** 31 - 1)
-
-
-def judge_members(name, wanted):
-    """Refuses a command of which the members aren't those that it has."""
-    if not isinstance(wanted, Members):
-        refuse_field(name)
-    row = ROWS[name]
-    for field, value in wanted.pairs:
-        if field == "options" and name in OPTIONS and isinstance(value, Members):
-            for option, inner in value.pairs:
-                if option not in OPTIONS[name] or not OPTIONS[name][option](inner):
-                    refuse_field("options." + option)
-        elif field not in row or kind(value) != row[field][0]:
-            refuse_field(field)
-    for field, (_, required) in row.items():
-        if required and wanted.get(field) is ABSENT:
-            refuse_field(field)
-    sorts, options = member(wanted, "sort").pairs != [], member(wanted, "options")
-    if not sorts and count_of(options.get("skip")) != 0:
-        refuse_field("options.skip")
-    if sorts and isinstance(options.get("pageState"), str):
-        refuse_field("options.pageState")
-
-
-def judge_bounds(wanted):
-    """Refuses a command that asks for too much."""
-    skip = count_of(member(wanted, "options").get("skip"))
-    for field, bound, found in [("skip", 480, skip), ("sort", 8, len(member(wanted, "sort").pairs))]:
-        if found > bound:
-            raise Fault("COMMAND_LIMIT_VIOLATION", f"Command limit {field} is {bound}, found {found}")
-
+# ---- what a request asks for ----
 
 class Search:
     """What a command looks for, what it does there, and what it shows; read in the order in which it is judged."""
 
-    def __init__(self, name, wanted):
-        self.matches = read_filter(member(wanted, "filter"))
-        self.clauses = read_updates(member(wanted, "update"))
+    def __init__(self, wanted):
+        asked = member(wanted, "filter")
+        self.matches = read_filter(asked)
+        self.equalities = list(equalities(asked))
+        self.clauses = updates.read_updates(member(wanted, "update"))
         self.rules = views.read_projection(member(wanted, "projection"))
         self.keys = views.read_sort(member(wanted, "sort"))
-        options = member(wanted, "options")
-        self.limit, self.skip = count_of(options.get("limit")), count_of(options.get("skip"))
-        state = options.get("pageState")
-        self.given, self.after = views.read_state(state) if isinstance(state, str) else (0, ABSENT)
+        self.limit, self.skip = option(wanted, "limit", 0), option(wanted, "skip", 0)
+        state = option(wanted, "pageState", None)
+        self.given, self.after = (0, ABSENT) if state is None else views.read_state(state)
+        self.replacement = wanted.get("replacement")
+        if self.replacement is not ABSENT:
+            judge_names(self.replacement)
+        self.inserts = option(wanted, "upsert", False)
+        self.shows_new = option(wanted, "returnDocument", "before") == "after"
 
     def found(self, rows):
         """The documents that match, in order."""
@@ -361,51 +48,94 @@ class Search:
             raise Fault("DATASET_TOO_BIG", "More than 10000 documents to sort")
         return views.sort(self.keys, documents)
 
-    def view(self, document):
-        return text_of(views.view(self.rules, document))
+    def changed(self, document, moment):
+        """What is to stand in the place of a document."""
+        if self.replacement is not ABSENT:
+            return updates.replaced(self.replacement, document)
+        return updates.apply_updates(self.clauses, document, moment)
 
+    def inserted(self, generated, moment):
+        """The document that is inserted where nothing matches."""
+        if self.replacement is not ABSENT:
+            return updates.inserted_by_replacement(self.equalities, self.replacement, generated)
+        return updates.inserted_by_updates(self.equalities, self.clauses, moment, generated)
+
+    def view(self, document):
+        return "null" if document is None else text_of(views.view(self.rules, document))
+
+
+class Outcome:
+    """What became of one document: as it was, as it is, whether it differs, and the id of one that was inserted."""
+
+    def __init__(self, old=None, new=None, differs=False, inserted=ABSENT):
+        self.old, self.new, self.differs, self.inserted = old, new, differs, inserted
+
+
+def documents_of(wanted):
+    """The documents of an insertion, and whether the first one whose id is there ends it."""
+    one = wanted.get("document")
+    return ([one], True) if one is not ABSENT else (wanted.get("documents"), option(wanted, "ordered", False))
+
+
+def refusal(fault):
+    errors = ['{"message":%s,"errorCode":"%s"}' % (quoted(one.message), one.code) for one in fault.before + [fault]]
+    return "{%s}" % ",".join([fault.status] * (fault.status != "") + ['"errors":[%s]' % ",".join(errors)])
+
+
+# ---- the service ----
 
 class Service:
-    """The living collections of a keyspace, the last number given, and the time."""
+    """The living collections of a keyspace, the last number given, the time, and the ids that are generated."""
 
-    def __init__(self, collections, keyspace="ks", last=0, moment=0):
+    def __init__(self, collections, keyspace="ks", last=0, moment=0, ids=None):
         self.rows = {name: {} for name in collections}
         self.keyspace = keyspace
         self.last = last
         self.moment = moment
+        self.ids = ids or Told()
+        self.told = ""
 
-    def reply(self, path, body):
+    def reply(self, path, body, told=""):
+        """The reply to a request; what the program replied, if it is known, tells the ids that it generated."""
+        self.told = told
         try:
             return self.answer(path, body)
         except Fault as fault:
-            error = '{"message":%s,"errorCode":"%s"}' % (quoted(fault.message), fault.code)
-            return "{%s}" % ",".join([fault.status] * (fault.status != "") + ['"errors":[%s]' % error])
+            return refusal(fault)
 
     def answer(self, path, body):
         value = read(body)
         names = value.names() if isinstance(value, Members) else []
-        if len(names) != 1 or names[0] not in ROWS or len(path) != 2:
+        if len(names) != 1 or names[0] not in ROWS or (names[0] in ON_COLLECTIONS) != (len(path) == 1):
             raise Fault("NO_COMMAND_MATCHED", "No command matched")
         name, wanted = value.pairs[0]
-        keyspace, collection = path
-        if keyspace != self.keyspace:
-            raise Fault("KEYSPACE_NOT_EXIST", f"Keyspace {keyspace} does not exist")
-        if not COLLECTION.match(collection):
-            raise Fault("INVALID_COLLECTION_NAME", f"Collection name is invalid: {collection}")
+        if path[0] != self.keyspace:
+            raise Fault("KEYSPACE_NOT_EXIST", f"Keyspace {path[0]} does not exist")
+        collection = self.collection_of(name, wanted, path)
         judge_members(name, wanted)
         judge_bounds(wanted)
-        search = Search(name, wanted)
-        if name == "insertOne":
-            judge_document(wanted.get("document"))
-            self.next_number()
+        if name in ON_COLLECTIONS:
+            return getattr(self, name)(collection)
+        search = Search(wanted)
+        if name in ("insertOne", "insertMany"):
+            return self.insert_all(collection, *documents_of(wanted))
+        generated = self.ids.draw() if search.inserts else None
+        return getattr(self, name)(self.rows_of(collection), search, generated)
+
+    def collection_of(self, name, wanted, path):
+        """The collection that is named by the path, or by a command on collections, if one is."""
+        named = "name" in ROWS[name] and isinstance(wanted, Members) and isinstance(wanted.get("name"), str)
+        collection = path[1] if len(path) == 2 else wanted.get("name") if named else None
+        if collection is not None and not COLLECTION.match(collection):
+            raise Fault("INVALID_COLLECTION_NAME", f"Collection name is invalid: {collection}")
+        return collection
+
+    def rows_of(self, collection):
         if collection not in self.rows:
             raise Fault("COLLECTION_NOT_EXIST", f"Collection {collection} does not exist")
-        rows = self.rows[collection]
-        if name == "insertOne":
-            return self.insert(rows, wanted.get("document"))
-        serve = {"findOne": self.find_one, "find": self.find, "countDocuments": self.count, "updateOne": self.update,
-                 "updateMany": self.update_many, "deleteOne": self.delete, "deleteMany": self.delete_many}
-        return serve[name](rows, search)
+        return self.rows[collection]
+
+    # ---- writes ----
 
     def next_number(self):
         if self.last + 1 >= 2 ** 63 - 1:
@@ -417,18 +147,70 @@ class Service:
         rows[id_key(document.get("_id"))] = self.last, document
 
     def insert(self, rows, document):
-        key = id_key(document.get("_id"))
-        text = text_of(document.get("_id"))
-        if key in rows:
-            raise Fault("DOCUMENT_ALREADY_EXISTS", f"Document {text} already exists at version {rows[key][0]}")
-        self.write(rows, document)
-        return '{"status":{"insertedIds":[%s]}}' % text
+        """Inserts a document, and tells its id."""
+        number, own = self.next_number(), document.get("_id")
+        there = rows.get(id_key(own))
+        if there:
+            raise Fault(DOUBLE, f"Document {text_of(own)} already exists at version {there[0]}")
+        rows[id_key(own)] = number, document
+        self.last = number
+        return text_of(own)
 
-    def find_one(self, rows, search):
+    def change(self, rows, search, document):
+        """Changes a document: what it is then, and whether that differs."""
+        new = search.changed(document, self.moment)
+        differs = not same(new, document)
+        if differs:
+            self.write(rows, new)
+        return new, differs
+
+    def remove(self, rows, document):
+        self.last = self.next_number()
+        del rows[id_key(document.get("_id"))]
+
+    def put(self, rows, search, generated):
+        """Inserts a document since none matched, if one is to be."""
+        if not search.inserts:
+            return Outcome()
+        settled = self.ids.settle(generated, self.told, 0) if self.is_generated(search) else None
+        new = search.inserted(settled, self.moment)
+        self.insert(rows, new)
+        return Outcome(new=new, inserted=new.get("_id"))
+
+    def is_generated(self, search):
+        own = ABSENT if search.replacement is ABSENT else search.replacement.get("_id")
+        return own is ABSENT and updates.id_of_equalities(search.equalities) is ABSENT
+
+    # ---- insertions ----
+
+    def insert_all(self, collection, documents, is_ordered):
+        for document in documents:
+            judge_document(document)
+        drawn = [self.ids.draw() if document.get("_id") is ABSENT else None for document in documents]
+        ids, faults = [], []
+        for document, generated in zip(documents, drawn):
+            try:
+                self.next_number()
+                rows = self.rows_of(collection)
+                if document.get("_id") is ABSENT:
+                    document = updates.with_id(document, self.ids.settle(generated, self.told, len(ids)))
+                ids.append(self.insert(rows, document))
+            except Fault as fault:
+                faults.append(fault)
+                if is_ordered or fault.code != DOUBLE:
+                    break
+        status = '"status":{"insertedIds":[%s]}' % ",".join(ids)
+        if not faults:
+            return "{%s}" % status
+        faults[-1].before = faults[:-1]
+        faults[-1].status = status if ids else ""
+        raise faults[-1]
+
+    def findOne(self, rows, search, _):
         found = search.found(rows)
-        return '{"data":{"document":%s}}' % (search.view(found[0]) if found else "null")
+        return '{"data":{"document":%s}}' % search.view(found[0] if found else None)
 
-    def find(self, rows, search):
+    def find(self, rows, search, _):
         found = search.found(rows)[search.skip:]
         room = min(PAGE, max(search.limit - search.given, 0)) if search.limit else PAGE
         page, state = found[:room], "null"
@@ -437,55 +219,91 @@ class Service:
             state = quoted(views.print_state(min(given, MOST_GIVEN), page[-1].get("_id")))
         return '{"data":{"documents":[%s],"nextPageState":%s}}' % (",".join(map(search.view, page)), state)
 
-    def count(self, rows, search):
+    def countDocuments(self, rows, search, _):
         found = search.found(rows)
-        more = ',"moreData":true' if len(found) > 1000 else ""
-        return '{"status":{"count":%d%s}}' % (min(len(found), 1000), more)
+        more = ',"moreData":true' if len(found) > MOST_COUNTED else ""
+        return '{"status":{"count":%d%s}}' % (min(len(found), MOST_COUNTED), more)
 
-    def change(self, rows, search, document):
-        """Updates a document, and tells whether it differs."""
-        new = apply_updates(search.clauses, document, self.moment)
-        if same(new, document):
-            return False
-        self.write(rows, new)
-        return True
+    # ---- changes of one document ----
 
-    def remove(self, rows, document):
-        self.last = self.next_number()
-        del rows[id_key(document.get("_id"))]
-        return True
-
-    def update(self, rows, search):
-        found = search.found(rows)[:1]
-        changed = [self.change(rows, search, document) for document in found]
-        return "{%s}" % updated_status(len(found), sum(changed))
-
-    def delete(self, rows, search):
-        found = search.found(rows)[:1]
-        changed = [self.remove(rows, document) for document in found]
-        return "{%s}" % deleted_status(len(found), sum(changed))
-
-    def update_many(self, rows, search):
+    def change_one(self, rows, search, generated):
         found = search.found(rows)
-        taken, changed = take_many(found, lambda document: self.change(rows, search, document), updated_status)
+        if not found:
+            return self.put(rows, search, generated)
+        new, differs = self.change(rows, search, found[0])
+        return Outcome(found[0], new, differs)
+
+    def remove_one(self, rows, search):
+        found = search.found(rows)
+        if not found:
+            return Outcome()
+        self.remove(rows, found[0])
+        return Outcome(old=found[0], differs=True)
+
+    def updateOne(self, rows, search, generated):
+        return "{%s}" % updated_outcome(self.change_one(rows, search, generated))
+
+    def findOneAndUpdate(self, rows, search, generated):
+        outcome = self.change_one(rows, search, generated)
+        shown = search.view(outcome.new if search.shows_new else outcome.old)
+        return '{"data":{"document":%s},%s}' % (shown, updated_outcome(outcome))
+
+    findOneAndReplace = findOneAndUpdate
+
+    def deleteOne(self, rows, search, _):
+        return "{%s}" % deleted_status(self.remove_one(rows, search).differs)
+
+    def findOneAndDelete(self, rows, search, _):
+        outcome = self.remove_one(rows, search)
+        return '{"data":{"document":%s},%s}' % (search.view(outcome.old), deleted_status(outcome.differs))
+
+    # ---- changes of many documents ----
+
+    def updateMany(self, rows, search, generated):
+        found = search.found(rows)
+        if not found and search.after is ABSENT:
+            return "{%s}" % updated_outcome(self.put(rows, search, generated))
+        taken, changed = take_many(found, lambda document: self.change(rows, search, document)[1], updated_status)
         more = ""
         if len(found) > taken:
             given = min(search.given + taken, MOST_GIVEN)
             more = ',"moreData":true,"nextPageState":' + quoted(views.print_state(given, found[taken - 1].get("_id")))
         return "{%s}" % updated_status(taken, changed, more)
 
-    def delete_many(self, rows, search):
+    def deleteMany(self, rows, search, _):
         found = search.found(rows)
-        taken, changed = take_many(found, lambda document: self.remove(rows, document), deleted_status)
-        return "{%s}" % deleted_status(taken, changed, ',"moreData":true' if len(found) > taken else "")
+        taken, _ = take_many(found, lambda document: self.remove(rows, document) or True,
+                             lambda taken, changed: deleted_status(changed))
+        return "{%s}" % deleted_status(taken, ',"moreData":true' if len(found) > taken else "")
+
+    # ---- collections ----
+
+    def createCollection(self, name):
+        if name not in self.rows:
+            if len(self.rows) >= MOST_COLLECTIONS:
+                raise Fault("TOO_MANY_COLLECTIONS", "At most 100 collections")
+            self.rows[name] = {}
+        return '{"status":{"ok":1}}'
+
+    def deleteCollection(self, name):
+        self.rows.pop(name, None)
+        return '{"status":{"ok":1}}'
+
+    def findCollections(self, _):
+        return '{"status":{"collections":[%s]}}' % ",".join(map(quoted, self.rows))
 
 
 def updated_status(taken, changed, more=""):
     return '"status":{"matchedCount":%d,"modifiedCount":%d%s}' % (taken, changed, more)
 
 
-def deleted_status(taken, changed, more=""):
-    return '"status":{"deletedCount":%d%s}' % (changed, more)
+def updated_outcome(outcome):
+    inserted = "" if outcome.inserted is ABSENT else ',"upsertedId":' + text_of(outcome.inserted)
+    return updated_status(outcome.old is not None, outcome.differs, inserted)
+
+
+def deleted_status(deleted, more=""):
+    return '"status":{"deletedCount":%d%s}' % (deleted, more)
 
 
 def take_many(found, take, status):
@@ -517,9 +335,10 @@ def request_of(line):
     return [part.decode() for part in parts], body
 
 
-def run(service, data):
-    """(output, status, note) of the whole input."""
+def run(service, data, told=()):
+    """(output, status, note) of the whole input; `told` are the replies of the program, as far as they are known."""
     out = []
+    told = list(told)
     lines = data.split(b"\n")
     for number, line in enumerate(lines, 1):
         if line in (b"", b"\r"):
@@ -527,5 +346,5 @@ def run(service, data):
         request = request_of(line)
         if request is None:
             return "".join(out), 6, f"line {number} is not a request\n"
-        out.append(service.reply(*request) + "\n")
+        out.append(service.reply(*request, *told[len(out):len(out) + 1]) + "\n")
     return "".join(out), 0, ""

@@ -59,12 +59,14 @@ ABSENT = Absent()
 
 
 class Fault(Exception):
-    """A refusal, with its code and message, and the status that tells of the writes before it, if there is one."""
+    """A refusal, with its code and message, the refusals before it, and the status that tells of the writes before it, if
+    there is one."""
 
     def __init__(self, code, message):
         super().__init__(message)
         self.code = code
         self.message = message
+        self.before = []
         self.status = ""
 
 
@@ -344,19 +346,38 @@ def limit_fault(document):
     return None
 
 
-def judge_document(document):
-    """Refuses a document that may not be stored."""
+def is_id(value):
+    return value is not ABSENT and not isinstance(value, (list, Members)) and not (isinstance(value, str) and value == "")
+
+
+def judge_names(document):
+    """Refuses an object whose `_id` is there and is none, or in which a name isn't allowed."""
     document_id = document.get("_id")
-    if document_id is ABSENT or isinstance(document_id, (list, Members)):
+    if isinstance(document_id, (list, Members)):
         raise Fault("SHRED_BAD_DOCID_TYPE", "Field _id is of the wrong kind")
-    if document_id == "" and isinstance(document_id, str):
+    if isinstance(document_id, str) and document_id == "":
         raise Fault("SHRED_BAD_DOCID_EMPTY_STRING", "Field _id is an empty text")
     for name in names_in(document):
         if not NAME.match(name):
             raise Fault("SHRED_DOC_KEY_NAME_VIOLATION", f"Member name is not allowed: {name}")
+
+
+def judge_limits(document):
+    """Refuses a document that breaks a limit."""
     broken = limit_fault(document)
     if broken:
         raise Fault("SHRED_DOC_LIMIT_VIOLATION", "Document limit %d is %d, found %d" % broken)
+
+
+# As long as an id that is generated.
+SOME_ID = "x" * 36
+
+
+def judge_document(document):
+    """Refuses a document that may not be stored; one without an id is judged with one of 36 letters in front."""
+    judge_names(document)
+    own = document.get("_id")
+    judge_limits(Members([("_id", SOME_ID)] + document.pairs) if own is ABSENT else document)
 
 
 # ---- paths and orders ----

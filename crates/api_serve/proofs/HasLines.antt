@@ -8,7 +8,7 @@ use Rattle.api_serve.specs.Lines.{ended_lines, Splits, HasLines, BeginsWith, las
 use Rattle.api_serve.specs.Request.{IsRightLine, AreRightLines, is_skipped}
 use Rattle.api_serve.specs.Run.{IsWrongBehind}
 use Rattle.api_serve.specs.Piece.{BeginsWrong}
-use Rattle.api_serve.proofs.Cuts.{joined_true, free_joined}
+use Rattle.api_serve.proofs.Cuts.{both_true, joined_true, free_joined, cut_once, not_free}
 use Rattle.api_serve.proofs.Served.{ended-append, all_free}
 
 -- each input has lines
@@ -178,3 +178,27 @@ begins_behind input lines part piece others s b = record {
   text = text_behind input lines part piece others b.rest s b.text;
   each = all_free lines others s.each b.each;
 }
+
+-- ---- an input has one list of lines
+
+line_first : (line : List ℕ) (lines : List (List ℕ)) (rest : List ℕ) → ended_lines (line ∷ lines) ++ rest ≡ line ++ 10 ∷ (ended_lines lines ++ rest)
+line_first line lines rest = append_assoc (line ++ 10 ∷ []) (ended_lines lines) rest ∙ append_assoc line (10 ∷ []) (ended_lines lines ++ rest)
+
+never_free : (rest line : List ℕ) (lines : List (List ℕ)) (other : List ℕ) → IsTrue (is_free_of 10 rest) → rest ≡ ended_lines (line ∷ lines) ++ other → ⊥
+never_free rest line lines other free e = not_free 10 line (ended_lines lines ++ other) (subst (λ (xs : List ℕ). IsTrue (is_free_of 10 xs)) (e ∙ line_first line lines other) free)
+
+same_split : (xs ys : List (List ℕ)) (r s : List ℕ) → IsTrue (list_all (is_free_of 10) xs) → IsTrue (is_free_of 10 r) → IsTrue (list_all (is_free_of 10) ys) → IsTrue (is_free_of 10 s) → ended_lines xs ++ r ≡ ended_lines ys ++ s → (xs ≡ ys) × (r ≡ s)
+same_split [] [] r s fx fr fy fs e = (refl, e)
+same_split [] (y ∷ ys) r s fx fr fy fs e = absurd (never_free r y ys s fr e)
+same_split (x ∷ xs) [] r s fx fr fy fs e = absurd (never_free s x xs r fs (sym e))
+same_split (x ∷ xs) (y ∷ ys) r s fx fr fy fs e =
+    let f = both_true (is_free_of 10 x) (list_all (is_free_of 10) xs) fx in
+    let g = both_true (is_free_of 10 y) (list_all (is_free_of 10) ys) fy in
+    let c = cut_once 10 x y (ended_lines xs ++ r) (ended_lines ys ++ s) f.0 g.0 (sym (line_first x xs r) ∙ e ∙ line_first y ys s) in
+    let rest = same_split xs ys r s f.1 fr g.1 fs c.1 in
+    ((λ i. c.0 i ∷ rest.0 i), rest.1)
+
+pub lines_are_one : (input : List ℕ) (lines others : List (List ℕ)) → HasLines input lines → HasLines input others → lines ≡ others
+lines_are_one input lines others a b =
+    let s = same_split a.ended b.ended a.rest b.rest a.split.each a.split.last b.split.each b.split.last (sym a.split.text ∙ b.split.text) in
+    a.all ∙ (λ i. s.0 i ++ last_line (s.1 i)) ∙ sym b.all

@@ -7,3 +7,4 @@ pub mod Sent
 pub mod HasLines
 pub mod Whole
 pub mod Opened
+pub mod Contests

@@ -10,18 +10,20 @@ use Rattle.store_core.specs.declared.entry.Entry.{Entry}
 use Rattle.store_core.specs.declared.entry.Entry.TheVariants.{Opened}
 use Rattle.cmd_tasks.specs.Session.{IsSession, AreCounted}
 use Rattle.cmd_tasks.specs.declared.trace.Trace.{Trace}
-use Rattle.api_serve.specs.Session.{Service, Serving, AreTraces, AreMoments}
-use Rattle.api_serve.specs.Shown.{service_of, serving_of}
+use Rattle.rand_core.specs.Stream.{Stream}
+use Rattle.cmd_tasks.specs.Ids.{begins}
+use Rattle.api_serve.specs.Session.{Service, Serving, Stage, AreTraces, AreMoments, AreDrawn}
+use Rattle.api_serve.specs.Shown.{service_of, serving_of, stage_of, seen}
 use Rattle.api_serve.specs.Run.{Serves, ServesLines, ServesWholeLines, ServesFirst}
 use Rattle.api_serve.specs.Ends.{EndsRun}
 use Rattle.api_serve.specs.declared.run.RunHow.{RunHow}
 use Rattle.api_serve.specs.declared.run.RunHow.TheVariants.{Done, ReadFault, WriteFault, TooLong, WrongLine, NoMemory}
 
 -- what an opened session served, from before it was opened
-pub opened_lines : (keyspace : List ℕ) (start : Option State) (number : ℕ) (before opened after : Serving) (lines : List (List ℕ)) (output : List ℕ) → number ≡ opened_in before.journal
-    → opened.journal ≡ before.journal ++ Opened number ∷ [] → opened.failed ≡ before.failed → opened.traces ≡ [] → opened.times ≡ before.times → ForSome start (λ base. IsSession base opened.journal number [])
-    → Serves (service_of keyspace start number) opened lines output after → ServesLines keyspace start before after lines output
-opened_lines keyspace start number before opened after lines output number_is journal failed traces times begun s =
+pub opened_lines : (keyspace seed : List ℕ) (start : Option State) (first number : ℕ) (before : Serving) (opened after : Stage) (lines : List (List ℕ)) (output : List ℕ) → number ≡ opened_in before.journal
+    → opened.journal ≡ before.journal ++ Opened number ∷ [] → opened.failed ≡ before.failed → opened.traces ≡ [] → opened.times ≡ before.times → opened.ids ≡ begins seed first number → ForSome start (λ base. IsSession base opened.journal number [])
+    → Serves (service_of keyspace start number) opened lines output after → ServesLines keyspace seed start first before (seen after) lines output
+opened_lines keyspace seed start first number before opened after lines output number_is journal failed traces times ids begun s =
     let more = s.made.grown.more in
     record {
       requests = s.requests;
@@ -37,6 +39,7 @@ opened_lines keyspace start number before opened after lines output number_is jo
       session = λ base told. s.made.session base told [] (begun base told);
       traces = subst (λ (ts : List Trace). AreTraces ts s.exchanges) (sym (s.made.traces ∙ ap (λ ts. ts ++ s.made.more) traces)) s.made.kept;
       moments = subst (λ (o : Option (List ℤ)). ForSome o (λ ts. AreMoments ts s.exchanges)) times s.made.moments;
+      drawn = subst (λ (z : Stream). AreDrawn z s.exchanges) ids s.made.drawn;
       text = s.text;
     }
 
@@ -68,48 +71,49 @@ module _ (P : List (List ℕ) → List ℕ → Type 0) (X : Type 0) (gives : (li
   ends_give NoMemory h = gives h.lines h.output h.served
 
 -- the count of the keeper's faults never falls
-pub ends_grow : (keyspace : List ℕ) (start : Option State) (number : ℕ) (opened later : Serving) (from to : Reading) (before after : Writing) (how : RunHow)
+pub ends_grow : (keyspace : List ℕ) (start : Option State) (number : ℕ) (opened later : Stage) (from to : Reading) (before after : Writing) (how : RunHow)
     → EndsRun (λ lines output. Serves (service_of keyspace start number) opened lines output later) from to before after how → opened.failed ≤ later.failed
 ends_grow keyspace start number opened later from to before after how h =
     ends_give (λ lines output. Serves (service_of keyspace start number) opened lines output later) (opened.failed ≤ later.failed) (λ lines output s. s.made.grown.grows) from to before after how h
 
--- the traces of a session that was just opened were none
-pub ends_begun : (service : Service) (journal : List Entry) (failed : ℕ) (traces : List Trace) (times : Option (List ℤ)) (later : Serving) (from to : Reading) (before after : Writing) (how : RunHow) → traces ≡ []
-    → EndsRun (λ lines output. Serves service (serving_of journal failed traces times) lines output later) from to before after how
-    → EndsRun (λ lines output. Serves service (serving_of journal failed [] times) lines output later) from to before after how
-ends_begun service journal failed traces times later from to before after how none h =
-    subst (λ (ts : List Trace). EndsRun (λ lines output. Serves service (serving_of journal failed ts times) lines output later) from to before after how) none h
+-- the traces of a session that was just opened were none, and its ids are drawn from a generator that was just made
+pub ends_begun : (service : Service) (journal : List Entry) (failed : ℕ) (traces : List Trace) (times : Option (List ℤ)) (ids given : Stream) (later : Stage) (from to : Reading) (before after : Writing) (how : RunHow) → traces ≡ [] → ids ≡ given
+    → EndsRun (λ lines output. Serves service (stage_of journal failed traces times ids) lines output later) from to before after how
+    → EndsRun (λ lines output. Serves service (stage_of journal failed [] times given) lines output later) from to before after how
+ends_begun service journal failed traces times ids given later from to before after how none is h =
+    subst (λ (z : List Trace × Stream). EndsRun (λ lines output. Serves service (stage_of journal failed z.0 times z.1) lines output later) from to before after how) (λ j. (none j, is j)) h
 
 -- an opened session's end, from before it was opened
-pub ends_opened : (keyspace : List ℕ) (start : Option State) (number : ℕ) (before_journal opened_journal : List Entry) (failed : ℕ) (times : Option (List ℤ)) (later : Serving) (from to : Reading) (before after : Writing) (how : RunHow)
-    → number ≡ opened_in before_journal → opened_journal ≡ before_journal ++ Opened number ∷ [] → ForSome start (λ base. IsSession base opened_journal number [])
-    → EndsRun (λ lines output. Serves (service_of keyspace start number) (serving_of opened_journal failed [] times) lines output later) from to before after how
-    → EndsRun (ServesLines keyspace start (serving_of before_journal failed [] times) later) from to before after how
-ends_opened keyspace start number before_journal opened_journal failed times later from to before after how number_is journal begun h =
-    ends_as (λ lines output. Serves (service_of keyspace start number) (serving_of opened_journal failed [] times) lines output later) (ServesLines keyspace start (serving_of before_journal failed [] times) later)
-    (λ lines output s. opened_lines keyspace start number (serving_of before_journal failed [] times) (serving_of opened_journal failed [] times) later lines output number_is journal refl refl refl begun s)
+pub ends_opened : (keyspace seed : List ℕ) (start : Option State) (first number : ℕ) (before_journal opened_journal : List Entry) (failed : ℕ) (times : Option (List ℤ)) (ids : Stream) (later : Stage) (from to : Reading) (before after : Writing) (how : RunHow)
+    → number ≡ opened_in before_journal → opened_journal ≡ before_journal ++ Opened number ∷ [] → ids ≡ begins seed first number → ForSome start (λ base. IsSession base opened_journal number [])
+    → EndsRun (λ lines output. Serves (service_of keyspace start number) (stage_of opened_journal failed [] times ids) lines output later) from to before after how
+    → EndsRun (ServesLines keyspace seed start first (serving_of before_journal failed [] times) (seen later)) from to before after how
+ends_opened keyspace seed start first number before_journal opened_journal failed times ids later from to before after how number_is journal ids_are begun h =
+    ends_as (λ lines output. Serves (service_of keyspace start number) (stage_of opened_journal failed [] times ids) lines output later) (ServesLines keyspace seed start first (serving_of before_journal failed [] times) (seen later))
+    (λ lines output s. opened_lines keyspace seed start first number (serving_of before_journal failed [] times) (stage_of opened_journal failed [] times ids) later lines output number_is journal refl refl refl ids_are begun s)
     from to before after how h
 
 -- the store in which a session was just opened
-pub ends_in_store : {K : Type 0} (failed : K → ℕ) (keyspace : List ℕ) (old opened : Stored K) (number : ℕ) (times : Option (List ℤ)) (later : Serving) (from to : Reading) (before after : Writing) (how : RunHow) → number ≡ opened_in old.journal
-    → opened ≡ record old { journal = old.journal ++ Opened number ∷ [] } → ForSome old.start (λ b. b.sessions ≡ 0) → IsLawful opened
+pub ends_in_store : {K : Type 0} (failed : K → ℕ) (keyspace seed : List ℕ) (old opened : Stored K) (number : ℕ) (times : Option (List ℤ)) (ids : Stream) (later : Stage) (from to : Reading) (before after : Writing) (how : RunHow) → number ≡ opened_in old.journal
+    → opened ≡ record old { journal = old.journal ++ Opened number ∷ [] } → ids ≡ begins seed opened.first number → ForSome old.start (λ b. b.sessions ≡ 0) → IsLawful opened
     → ((base : State) (history : List Entry) (k : ℕ) → base.sessions ≡ 0 → k ≡ opened_in history → IsJournal base (history ++ Opened k ∷ []) → IsSession base (history ++ Opened k ∷ []) k [])
-    → EndsRun (λ lines output. Serves (service_of keyspace opened.start number) (serving_of opened.journal (failed opened.keeper) [] times) lines output later) from to before after how
-    → EndsRun (ServesLines keyspace old.start (serving_of old.journal (failed old.keeper) [] times) later) from to before after how
-ends_in_store {K = K} failed keyspace old opened number times later from to before after how number_is is none lawful opens h =
+    → EndsRun (λ lines output. Serves (service_of keyspace opened.start number) (stage_of opened.journal (failed opened.keeper) [] times ids) lines output later) from to before after how
+    → EndsRun (ServesLines keyspace seed old.start old.first (serving_of old.journal (failed old.keeper) [] times) (seen later)) from to before after how
+ends_in_store {K = K} failed keyspace seed old opened number times ids later from to before after how number_is is ids_are none lawful opens h =
     let legal : ForSome old.start (λ b. IsJournal b (old.journal ++ Opened number ∷ []) × IsOld b) = subst (λ (s : Stored K). IsLawful s) is lawful in
-    ends_opened keyspace old.start number old.journal (old.journal ++ Opened number ∷ []) (failed old.keeper) times later from to before after how number_is refl
+    ends_opened keyspace seed old.start old.first number old.journal (old.journal ++ Opened number ∷ []) (failed old.keeper) times ids later from to before after how number_is refl
+    (ids_are ∙ ap (λ (s : Stored K). begins seed s.first number) is)
     (λ base told. opens base old.journal number (none base told) number_is (legal base told).0)
-    (subst (λ (s : Stored K). EndsRun (λ lines output. Serves (service_of keyspace s.start number) (serving_of s.journal (failed s.keeper) [] times) lines output later) from to before after how) is h)
+    (subst (λ (s : Stored K). EndsRun (λ lines output. Serves (service_of keyspace s.start number) (stage_of s.journal (failed s.keeper) [] times ids) lines output later) from to before after how) is h)
 
 -- what was put into an empty list is all
 pub only_one : {A B : Type 0} (f : A → B) (before after : List A) (x : A) → before ≡ [] → after ≡ before ++ x ∷ [] → map f after ≡ f x ∷ []
 only_one f before after x none is = ap (map f) (is ∙ ap (λ xs. xs ++ x ∷ []) none)
 
 -- the count of faults of a keeper in whose store a session was opened and served lines
-pub store_grows : {K : Type 0} (failed : K → ℕ) (keyspace : List ℕ) (old opened : Stored K) (number : ℕ) (times : Option (List ℤ)) (later : Serving) (from to : Reading) (before after : Writing) (how : RunHow)
+pub store_grows : {K : Type 0} (failed : K → ℕ) (keyspace : List ℕ) (old opened : Stored K) (number : ℕ) (times : Option (List ℤ)) (ids : Stream) (later : Stage) (from to : Reading) (before after : Writing) (how : RunHow)
     → opened ≡ record old { journal = old.journal ++ Opened number ∷ [] }
-    → EndsRun (λ lines output. Serves (service_of keyspace opened.start number) (serving_of opened.journal (failed opened.keeper) [] times) lines output later) from to before after how
+    → EndsRun (λ lines output. Serves (service_of keyspace opened.start number) (stage_of opened.journal (failed opened.keeper) [] times ids) lines output later) from to before after how
     → failed old.keeper ≤ later.failed
-store_grows {K = K} failed keyspace old opened number times later from to before after how is h =
-    subst (λ (s : Stored K). failed s.keeper ≤ later.failed) is (ends_grow keyspace opened.start number (serving_of opened.journal (failed opened.keeper) [] times) later from to before after how h)
+store_grows {K = K} failed keyspace old opened number times ids later from to before after how is h =
+    subst (λ (s : Stored K). failed s.keeper ≤ later.failed) is (ends_grow keyspace opened.start number (stage_of opened.journal (failed opened.keeper) [] times ids) later from to before after how h)

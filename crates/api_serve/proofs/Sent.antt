@@ -3,7 +3,7 @@ use Rattle.std.proofs.Common.{◌≡◌, ◌<◌, ◌++◌, [], ℕ, List, Resul
 use Rattle.std.proofs.lemmas.List.{take-take, length-take}
 use Rattle.std.specs.Prelude.{OnOk, IfErr}
 use Rattle.outside_io.specs.Told.{Writing, Takes, taken_then}
-use Rattle.api_serve.specs.Session.{Service, Serving}
+use Rattle.api_serve.specs.Session.{Service, Stage}
 use Rattle.api_serve.specs.Lines.{Splits}
 use Rattle.api_serve.specs.Piece.{TakesLines, TakesFirst, FindsWrong, StopsAt, TakesLast}
 use Rattle.api_serve.specs.Sent.{ServesPiece, AnswersBefore, AnswersFirst, AnswersCut, EndsPiece, AnswersLast, AnswersLastCut}
@@ -15,7 +15,7 @@ use Rattle.api_serve.specs.declared.run.Run.{Run}
 use Rattle.api_serve.specs.declared.run.Stop.{Stop}
 use Rattle.api_serve.specs.declared.run.Stop.TheVariants.{Wrong, NoMemory}
 
-module _ (service : Service) (stage : Serving) (old : Run) (later : Serving) where
+module _ (service : Service) (stage : Stage) (old : Run) (later : Stage) where
   first_of_lines : (new : Run) → TakesLines service stage old later new → TakesFirst service stage old later new
   first_of_lines new t = record {
     lines = t.lines;

@@ -3,7 +3,7 @@ use Rattle.std.proofs.Common.{◌≡◌, ◌++◌, ◌∷◌, [], ℕ, List, tru
 use Rattle.std.proofs.lemmas.List.{append-nil}
 use Rattle.std.proofs.lemmas.List.Folds.{list_all-append}
 use Rattle.std.specs.List.{list_all}
-use Rattle.api_serve.specs.Session.{Service, Serving, Makes}
+use Rattle.api_serve.specs.Session.{Service, Stage, Makes}
 use Rattle.api_serve.specs.Separated.{is_free_of}
 use Rattle.api_serve.specs.Lines.{ended_lines, Splits}
 use Rattle.api_serve.specs.Request.{Asks, AskFor, AreRightLines, is_skipped, parts_of}
@@ -28,15 +28,15 @@ asked_right (l ∷ lines) rs (inl p) = (inl p.0, asked_right lines rs p.1)
 asked_right (l ∷ lines) rs (inr p) = (inr (parts_of p.0, p.2), asked_right lines p.1 p.4)
 
 -- no line
-pub Serves-none : (service : Service) (stage : Serving) → Serves service stage [] [] stage
+pub Serves-none : (service : Service) (stage : Stage) → Serves service stage [] [] stage
 Serves-none service stage = record { requests = []; exchanges = []; requested = refl; asked = tt; made = Makes-none service stage; text = refl }
 
 -- a line that asks for nothing
-pub Serves-skipped : (service : Service) (stage : Serving) (line : List ℕ) → IsTrue (is_skipped line) → Serves service stage (line ∷ []) [] stage
+pub Serves-skipped : (service : Service) (stage : Stage) (line : List ℕ) → IsTrue (is_skipped line) → Serves service stage (line ∷ []) [] stage
 Serves-skipped service stage line skipped = record { requests = []; exchanges = []; requested = inl (skipped, refl); asked = tt; made = Makes-none service stage; text = refl }
 
 -- a line whose request was served
-pub Serves-request : (service : Service) (stage : Serving) (line : List ℕ) (request : Request) (x : Exchange) (reply : Reply) (after : Serving) → Asks line request → x.reply ≡ reply → IsAskedBy service.keyspace request x.asking
+pub Serves-request : (service : Service) (stage : Stage) (line : List ℕ) (request : Request) (x : Exchange) (reply : Reply) (after : Stage) → Asks line request → x.reply ≡ reply → IsAskedBy service.keyspace request x.asking
     → Makes service stage (x ∷ []) after → Serves service stage (line ∷ []) (reply_text reply ++ 10 ∷ []) after
 Serves-request service stage line request x reply after asks is asked made = record {
   requests = request ∷ [];
@@ -48,7 +48,7 @@ Serves-request service stage line request x reply after asks is asked made = rec
 }
 
 -- lines and then lines
-pub Serves-append : (service : Service) (before : Serving) (lines : List (List ℕ)) (output : List ℕ) (between : Serving) (others : List (List ℕ)) (more : List ℕ) (after : Serving)
+pub Serves-append : (service : Service) (before : Stage) (lines : List (List ℕ)) (output : List ℕ) (between : Stage) (others : List (List ℕ)) (more : List ℕ) (after : Stage)
     → Serves service before lines output between → Serves service between others more after → Serves service before (lines ++ others) (output ++ more) after
 Serves-append service before lines output between others more after s t = record {
   requests = s.requests ++ t.requests;
@@ -60,7 +60,7 @@ Serves-append service before lines output between others more after s t = record
 }
 
 -- lines that were served are of their form
-pub lines_right : (service : Service) (before : Serving) (lines : List (List ℕ)) (output : List ℕ) (after : Serving) → Serves service before lines output after → AreRightLines lines
+pub lines_right : (service : Service) (before : Stage) (lines : List (List ℕ)) (output : List ℕ) (after : Stage) → Serves service before lines output after → AreRightLines lines
 lines_right service before lines output after s = asked_right lines s.requests s.requested
 
 pub ended-append : (xs ys : List (List ℕ)) → ended_lines (xs ++ ys) ≡ ended_lines xs ++ ended_lines ys

@@ -3,7 +3,7 @@ use Rattle.std.proofs.Common.{◌≡◌, ◌≤◌, ◌+◌, ◌++◌, ◌∷◌
 use Rattle.std.proofs.lemmas.List.{append-nil}
 use lib.Seq.{take-append_seam}
 use Rattle.std.specs.List.{list_all}
-use Rattle.api_serve.specs.Session.{Service, Serving}
+use Rattle.api_serve.specs.Session.{Service, Stage}
 use Rattle.api_serve.specs.Separated.{is_free_of}
 use Rattle.api_serve.specs.Lines.{ended_lines, IsLineLen, last_line}
 use Rattle.api_serve.specs.Request.{IsRightLine, IsHopeless}
@@ -18,7 +18,7 @@ use Rattle.api_serve.proofs.Cuts.{take_all}
 use Rattle.api_serve.proofs.Served.{Serves-none, Serves-append, ended_more, each_more}
 
 -- some lines were served, and the rest waits
-pub record IsPartway (service : Service) (stage : Serving) (old : Run) (between : Serving) (now : Run) : Type 0 where
+pub record IsPartway (service : Service) (stage : Stage) (old : Run) (between : Stage) (now : Run) : Type 0 where
   pub lines : List (List ℕ)
   pub output : List ℕ
   pub text : old.lines ≡ ended_lines lines ++ now.lines
@@ -28,7 +28,7 @@ pub record IsPartway (service : Service) (stage : Serving) (old : Run) (between 
   pub counted : now.count ≡ old.count + length lines
   pub room : now.count + length now.lines ≤ old.count + length old.lines
 
-pub partway_start : (service : Service) (stage : Serving) (old : Run) → IsPartway service stage old stage old
+pub partway_start : (service : Service) (stage : Stage) (old : Run) → IsPartway service stage old stage old
 partway_start service stage old = record {
   lines = [];
   output = [];
@@ -40,11 +40,11 @@ partway_start service stage old = record {
   room = omega arith;
 }
 
-module _ (service : Service) (stage : Serving) (old : Run) (between : Serving) (now : Run) (way : IsPartway service stage old between now) where
-  more_served : (len : ℕ) (more : List ℕ) (later : Serving) → Serves service between (take len now.lines ∷ []) more later → Serves service stage (way.lines ++ take len now.lines ∷ []) (way.output ++ more) later
+module _ (service : Service) (stage : Stage) (old : Run) (between : Stage) (now : Run) (way : IsPartway service stage old between now) where
+  more_served : (len : ℕ) (more : List ℕ) (later : Stage) → Serves service between (take len now.lines ∷ []) more later → Serves service stage (way.lines ++ take len now.lines ∷ []) (way.output ++ more) later
   more_served len more later served = Serves-append service stage way.lines way.output between (take len now.lines ∷ []) more later way.served served
 
-  pub partway_line : (len : ℕ) (more : List ℕ) (later : Serving) (new : Run) → IsLineLen now.lines len → Serves service between (take len now.lines ∷ []) more later
+  pub partway_line : (len : ℕ) (more : List ℕ) (later : Stage) (new : Run) → IsLineLen now.lines len → Serves service between (take len now.lines ∷ []) more later
       → new.lines ≡ drop (len + 1) now.lines → new.out.items ≡ now.out.items ++ more → new.count ≡ now.count + 1 → IsPartway service stage old later new
   partway_line len more later new is served rest out count =
       let line = take len now.lines in
@@ -84,8 +84,8 @@ module _ (service : Service) (stage : Serving) (old : Run) (between : Serving) (
   }
 
   -- memory ran out before the next line's request was served, or before its reply was printed
-  pub partway_short : (later : Serving) (new : Run) (len : ℕ) → IsLineLen now.lines len → CutShort service (take len now.lines) between later → new.out.items ≡ now.out.items → TakesFirst service stage old later new
-  partway_short later new len is (inl same) out = subst (λ (s : Serving). TakesFirst service stage old s new) (sym same) (partway_first new out)
+  pub partway_short : (later : Stage) (new : Run) (len : ℕ) → IsLineLen now.lines len → CutShort service (take len now.lines) between later → new.out.items ≡ now.out.items → TakesFirst service stage old later new
+  partway_short later new len is (inl same) out = subst (λ (s : Stage). TakesFirst service stage old s new) (sym same) (partway_first new out)
   partway_short later new len is (inr served) out =
       let line = take len now.lines in
       record {
@@ -101,8 +101,8 @@ module _ (service : Service) (stage : Serving) (old : Run) (between : Serving) (
         written = out ∙ way.written ∙ ap (λ xs. old.out.items ++ xs) (sym (take-append_seam way.output served.0));
       }
 
-  partway_stops : (later : Serving) (new : Run) (number : ℕ) → later ≡ between → BeginsWrong now.lines → new.out.items ≡ now.out.items → number ≡ now.count + 1 → FindsWrong service stage old later new number
-  partway_stops later new number same wrong out is = subst (λ (s : Serving). FindsWrong service stage old s new number) (sym same) (record {
+  partway_stops : (later : Stage) (new : Run) (number : ℕ) → later ≡ between → BeginsWrong now.lines → new.out.items ≡ now.out.items → number ≡ now.count + 1 → FindsWrong service stage old later new number
+  partway_stops later new number same wrong out is = subst (λ (s : Stage). FindsWrong service stage old s new number) (sym same) (record {
     lines = way.lines;
     output = way.output;
     rest = now.lines;
@@ -114,7 +114,7 @@ module _ (service : Service) (stage : Serving) (old : Run) (between : Serving) (
     written = out ∙ way.written;
   })
 
-  pub partway_wrong : (later : Serving) (new : Run) (number len : ℕ) → later ≡ between → IsLineLen now.lines len → (IsRightLine (take len now.lines) → ⊥) → new.out.items ≡ now.out.items → number ≡ now.count + 1
+  pub partway_wrong : (later : Stage) (new : Run) (number len : ℕ) → later ≡ between → IsLineLen now.lines len → (IsRightLine (take len now.lines) → ⊥) → new.out.items ≡ now.out.items → number ≡ now.count + 1
       → FindsWrong service stage old later new number
   partway_wrong later new number len same is wrong out number_is = partway_stops later new number same (inl (take len now.lines, drop (len + 1) now.lines, is.text, is.free, wrong)) out number_is
 
@@ -123,7 +123,7 @@ module _ (service : Service) (stage : Serving) (old : Run) (between : Serving) (
   partway_hopeless new number free hopeless out number_is = partway_stops between new number refl (inr (free, hopeless)) out number_is
 
 -- a piece for which memory was wanting
-pub unfed : (service : Service) (stage : Serving) (old new : Run) → new.out.items ≡ old.out.items → TakesFirst service stage old stage new
+pub unfed : (service : Service) (stage : Stage) (old new : Run) → new.out.items ≡ old.out.items → TakesFirst service stage old stage new
 unfed service stage old new out = record {
   lines = [];
   output = [];
@@ -134,7 +134,7 @@ unfed service stage old new out = record {
 }
 
 -- at the input's end nothing waits, or one line
-pub last_none : (service : Service) (stage : Serving) (old new : Run) → old.lines ≡ [] → new.out.items ≡ old.out.items → TakesLast service stage old stage new
+pub last_none : (service : Service) (stage : Stage) (old new : Run) → old.lines ≡ [] → new.out.items ≡ old.out.items → TakesLast service stage old stage new
 last_none service stage old new none out = record {
   output = [];
   served = subst (λ (xs : List ℕ). Serves service stage (last_line xs) [] stage) (sym none) (Serves-none service stage);
@@ -145,7 +145,7 @@ last_as_line : (bytes : List ℕ) → (length bytes ≡ 0 → ⊥) → last_line
 last_as_line [] some = absurd (some refl)
 last_as_line (b ∷ bytes) some = refl
 
-pub last_served : (service : Service) (stage : Serving) (old : Run) (later : Serving) (new : Run) (output : List ℕ) → (length old.lines ≡ 0 → ⊥) → Serves service stage (old.lines ∷ []) output later
+pub last_served : (service : Service) (stage : Stage) (old : Run) (later : Stage) (new : Run) (output : List ℕ) → (length old.lines ≡ 0 → ⊥) → Serves service stage (old.lines ∷ []) output later
     → new.out.items ≡ old.out.items ++ output → TakesLast service stage old later new
 last_served service stage old later new output some served out = record {
   output = output;
@@ -153,7 +153,7 @@ last_served service stage old later new output some served out = record {
   written = out;
 }
 
-pub last_short : (service : Service) (stage : Serving) (old : Run) (later : Serving) (new : Run) → (length old.lines ≡ 0 → ⊥) → CutShort service old.lines stage later → new.out.items ≡ old.out.items
+pub last_short : (service : Service) (stage : Stage) (old : Run) (later : Stage) (new : Run) → (length old.lines ≡ 0 → ⊥) → CutShort service old.lines stage later → new.out.items ≡ old.out.items
     → IsShortLast service stage old later new
 last_short service stage old later new some (inl same) out = record { served = inl same; written = out }
 last_short service stage old later new some (inr served) out = record {
@@ -166,13 +166,13 @@ length_none [] e = refl
 length_none (x ∷ xs) e = absurd (omega arith)
 
 -- a line that was served is the front of the bytes that waited
-pub served_front : (keyspace : List ℕ) (start now : Option State) (number : ℕ) (stage : Serving) (waiting same line : List ℕ) (len : ℕ) (output : List ℕ) (later : Serving) → now ≡ start → same ≡ waiting → line ≡ take len same
+pub served_front : (keyspace : List ℕ) (start now : Option State) (number : ℕ) (stage : Stage) (waiting same line : List ℕ) (len : ℕ) (output : List ℕ) (later : Stage) → now ≡ start → same ≡ waiting → line ≡ take len same
     → Serves (service_of keyspace now number) stage (line ∷ []) output later → Serves (service_of keyspace start number) stage (take len waiting ∷ []) output later
 served_front keyspace start now number stage waiting same line len output later told is front served =
     subst (λ (s : Option State). Serves (service_of keyspace s number) stage (take len waiting ∷ []) output later) told
     (subst (λ (xs : List ℕ). Serves (service_of keyspace now number) stage (xs ∷ []) output later) (front ∙ ap (take len) is) served)
 
-pub short_front : (keyspace : List ℕ) (start now : Option State) (number : ℕ) (stage : Serving) (waiting same line : List ℕ) (len : ℕ) (later : Serving) → now ≡ start → same ≡ waiting → line ≡ take len same
+pub short_front : (keyspace : List ℕ) (start now : Option State) (number : ℕ) (stage : Stage) (waiting same line : List ℕ) (len : ℕ) (later : Stage) → now ≡ start → same ≡ waiting → line ≡ take len same
     → CutShort (service_of keyspace now number) line stage later → CutShort (service_of keyspace start number) (take len waiting) stage later
 short_front keyspace start now number stage waiting same line len later told is front (inl kept) = inl kept
 short_front keyspace start now number stage waiting same line len later told is front (inr served) = inr (served.0, served_front keyspace start now number stage waiting same line len served.0 later told is front served.1)
@@ -181,8 +181,8 @@ short_front keyspace start now number stage waiting same line len later told is 
 pub same_base : {K : Type 0} (a b c : Stored K) → SameBase a b → SameBase b c → SameBase a c
 same_base a b c p q = (q.0 ∙ p.0, q.1 ∙ p.1, q.2 ∙ p.2)
 
-pub served_as : (service : Service) (stage : Serving) (output : List ℕ) (later : Serving) (line bytes : List ℕ) → line ≡ bytes → Serves service stage (line ∷ []) output later → Serves service stage (bytes ∷ []) output later
+pub served_as : (service : Service) (stage : Stage) (output : List ℕ) (later : Stage) (line bytes : List ℕ) → line ≡ bytes → Serves service stage (line ∷ []) output later → Serves service stage (bytes ∷ []) output later
 served_as service stage output later line bytes is h = subst (λ (xs : List ℕ). Serves service stage (xs ∷ []) output later) is h
 
-pub short_as : (service : Service) (stage later : Serving) (line bytes : List ℕ) → line ≡ bytes → CutShort service line stage later → CutShort service bytes stage later
+pub short_as : (service : Service) (stage later : Stage) (line bytes : List ℕ) → line ≡ bytes → CutShort service line stage later → CutShort service bytes stage later
 short_as service stage later line bytes is h = subst (λ (xs : List ℕ). CutShort service xs stage later) is h

@@ -5,7 +5,7 @@ use Rattle.std.proofs.Math.Seq.{take-append-add}
 use Rattle.std.specs.Option.{ForSome}
 use Rattle.outside_io.specs.Told.{Reading, Writing, Takes, Takes-append, CountsGrow, then_left, taken_then, then_left-append, taken_then-nil, then_left-nil, then_left-all}
 use Rattle.outside_io.specs.Causes.{Rose, Rose-earlier}
-use Rattle.api_serve.specs.Session.{Service, Serving}
+use Rattle.api_serve.specs.Session.{Service, Stage}
 use Rattle.api_serve.specs.Separated.{is_free_of}
 use Rattle.api_serve.specs.Lines.{ended_lines, Splits, HasLines, last_line}
 use Rattle.api_serve.specs.Request.{is_skipped}
@@ -39,7 +39,7 @@ takes_none before now after output first then = then ∙ taken_then-nil now.take
 -- ---- so far
 
 -- these bytes were read, and their lines served
-pub record IsAt (service : Service) (start : Serving) (from to : Reading) (before now : Writing) (stage : Serving) (run : Run) (unread : ℕ) : Type 0 where
+pub record IsAt (service : Service) (start : Stage) (from to : Reading) (before now : Writing) (stage : Stage) (run : Run) (unread : ℕ) : Type 0 where
   pub input : List ℕ
   pub lines : List (List ℕ)
   pub output : List ℕ
@@ -51,7 +51,7 @@ pub record IsAt (service : Service) (start : Serving) (from to : Reading) (befor
   pub sent : run.out.items ≡ []
   pub written : Takes before output now
 
-pub at_start : (service : Service) (start : Serving) (from : Reading) (before : Writing) (run : Run) → (run.lines ≡ []) × (run.out.items ≡ []) × (run.count ≡ 0)
+pub at_start : (service : Service) (start : Stage) (from : Reading) (before : Writing) (run : Run) → (run.lines ≡ []) × (run.out.items ≡ []) × (run.count ≡ 0)
     → IsAt service start from from before before start run (2 ^ 40)
 at_start service start from before run is = record {
   input = [];
@@ -77,10 +77,10 @@ told_front whole a b None e = absurd (Prim.cc e)
 told_front whole a b (Some more) e = let same : whole ≡ a ++ (b ++ more) = Prim.cc e in (more, same ∙ sym (append_assoc a b more))
 
 -- what is said of the lines that were served between two moments
-abbrev pub SaidOf : Service → Serving → Serving → List (List ℕ) → List ℕ → Type 0
+abbrev pub SaidOf : Service → Stage → Stage → List (List ℕ) → List ℕ → Type 0
 SaidOf service start end lines output = Serves service start lines output end
 
-module _ (service : Service) (start : Serving) (from to : Reading) (before now : Writing) (stage : Serving) (run : Run) (unread : ℕ) (at : IsAt service start from to before now stage run unread) where
+module _ (service : Service) (start : Stage) (from to : Reading) (before now : Writing) (stage : Stage) (run : Run) (unread : ℕ) (at : IsAt service start from to before now stage run unread) where
   pub count_fits : run.count + length run.lines + unread ≤ 2 ^ 40
   count_fits = omega (arith, lines_fit at.lines, ap length at.split.text, length-append (ended_lines at.lines) run.lines, at.counted, at.size)
 
@@ -117,7 +117,7 @@ module _ (service : Service) (start : Serving) (from to : Reading) (before now :
     pub at_more : length piece ≤ unread → (count : ℕ) × (count ≤ 2 ^ 40) × HasRead from to' count
     at_more fits = (length (at.input ++ piece), omega (arith, length-append at.input piece, at.size), (at.input ++ piece, refl, read_more))
 
-    pub at_piece : (n : ℕ) (later : Serving) (new : Run) (after : Writing) → n ≡ length piece → n ≤ unread → ServesPiece service stage (fed run piece) later now after new
+    pub at_piece : (n : ℕ) (later : Stage) (new : Run) (after : Writing) → n ≡ length piece → n ≤ unread → ServesPiece service stage (fed run piece) later now after new
         → IsAt service start from to' before after later new (unread - n)
     at_piece n later new after size fits served = record {
       input = at.input ++ piece;
@@ -134,7 +134,7 @@ module _ (service : Service) (start : Serving) (from to : Reading) (before now :
 
     -- ---- a piece that ends the run
 
-    module _ (later : Serving) (after : Writing) where
+    module _ (later : Stage) (after : Writing) where
       before_wrong : (number : ℕ) → AnswersBefore service stage (fed run piece) later now after number → ServesBefore (SaidOf service start later) from to' before after number
       before_wrong number w = record {
         lines = at.lines ++ w.lines;
@@ -186,7 +186,7 @@ module _ (service : Service) (start : Serving) (from to : Reading) (before now :
     all_of_them : HasLines at.input (at.lines ++ last_line run.lines)
     all_of_them = record { ended = at.lines; rest = run.lines; split = at.split; all = refl }
 
-    module _ (later : Serving) (after : Writing) where
+    module _ (later : Stage) (after : Writing) where
       last_wrong : (number : ℕ) → RefusesLast service stage run later now after number → ServesBefore (SaidOf service start later) from to' before after number
       last_wrong number w =
           let some : run.lines ≡ [] → ⊥ = λ e. w.wrong (inl (ap is_skipped e)) in
@@ -203,7 +203,7 @@ module _ (service : Service) (start : Serving) (from to : Reading) (before now :
                   earlier = lines_right service start at.lines at.output stage at.served;
                   wrong = w.wrong;
                 };
-            served = subst (λ (s : Serving). Serves service start at.lines at.output s) (sym w.same) at.served;
+            served = subst (λ (s : Stage). Serves service start at.lines at.output s) (sym w.same) at.served;
             written = takes_none before now after at.output at.written w.written;
           }
 
@@ -228,7 +228,7 @@ module _ (service : Service) (start : Serving) (from to : Reading) (before now :
             count = length at.output;
             read = read_all;
             first = inl (record { rest = run.lines; text = at.split.text; each = at.split.each });
-            served = subst (λ (s : Serving). Serves service start at.lines at.output s) (sym same) at.served;
+            served = subst (λ (s : Stage). Serves service start at.lines at.output s) (sym same) at.served;
             written = takes_none before now after at.output at.written h.written ∙ ap (taken_then before.taken) (sym (take_all at.output));
           })
           (λ (z : (output : List ℕ) × Serves service stage (last_line run.lines) output later). last_cut z.0 0 z.1 h.written) h.served
@@ -270,14 +270,14 @@ front_fits n most buffer h = omega (arith, length-take n buffer, h)
 
 -- ---- the same history, by another name of its start
 
-pub finish_at : (keyspace : List ℕ) (start now : Option State) (number : ℕ) (stage : Serving) (run : Run) (later : Serving) (before after : Writing) (how : RunHow) → now ≡ start
+pub finish_at : (keyspace : List ℕ) (start now : Option State) (number : ℕ) (stage : Stage) (run : Run) (later : Stage) (before after : Writing) (how : RunHow) → now ≡ start
     → FinishesAs (service_of keyspace now number) stage run later before after how → FinishesAs (service_of keyspace start number) stage run later before after how
 finish_at keyspace start now number stage run later before after how is h = subst (λ (o : Option State). FinishesAs (service_of keyspace o number) stage run later before after how) is h
 
-pub piece_at : (keyspace : List ℕ) (start now : Option State) (number : ℕ) (stage : Serving) (run : Run) (later : Serving) (before after : Writing) (new : Run) → now ≡ start
+pub piece_at : (keyspace : List ℕ) (start now : Option State) (number : ℕ) (stage : Stage) (run : Run) (later : Stage) (before after : Writing) (new : Run) → now ≡ start
     → ServesPiece (service_of keyspace now number) stage run later before after new → ServesPiece (service_of keyspace start number) stage run later before after new
 piece_at keyspace start now number stage run later before after new is h = subst (λ (o : Option State). ServesPiece (service_of keyspace o number) stage run later before after new) is h
 
-pub end_at : (keyspace : List ℕ) (start now : Option State) (number : ℕ) (stage : Serving) (run : Run) (later : Serving) (before after : Writing) (how : RunHow) → now ≡ start
+pub end_at : (keyspace : List ℕ) (start now : Option State) (number : ℕ) (stage : Stage) (run : Run) (later : Stage) (before after : Writing) (how : RunHow) → now ≡ start
     → EndsPiece (service_of keyspace now number) stage run later before after how → EndsPiece (service_of keyspace start number) stage run later before after how
 end_at keyspace start now number stage run later before after how is h = subst (λ (o : Option State). EndsPiece (service_of keyspace o number) stage run later before after how) is h

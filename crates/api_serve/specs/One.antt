@@ -1,16 +1,20 @@
 -- One request, and one line. Only the crate's private clauses cite it.
 use Rattle.std.specs.Prelude.{◌≡◌, ◌⊎◌, ℕ, ℤ, List, [], ◌∷◌, ◌++◌, Option}
 use Rattle.std.specs.Option.{ForSome}
+use Rattle.rand_core.specs.Stream.{Stream}
+use Rattle.json_tree.specs.Tree.{Tree}
 use Rattle.reply_env.specs.declared.request.Request.{Request}
 use Rattle.store_core.specs.State.{State}
 use Rattle.cmd_tasks.specs.Session.{Exchange, IsSession}
-use Rattle.cmd_tasks.specs.Session.{Asking, asks_for}
+use Rattle.cmd_tasks.specs.Ids.{drawn, after_drawing}
+use Rattle.cmd_tasks.specs.Jobs.{draws}
+use Rattle.cmd_tasks.specs.Session.{Asking, asks_for, draws_of}
 use Rattle.cmd_grammar.specs.Commands.{CommandTree}
 use Rattle.reply_env.specs.Reply.{IsRefusal}
 use Rattle.reply_env.specs.declared.reply.ErrorItem.{ErrorItem}
 use Rattle.reply_env.specs.declared.reply.Reply.TheVariants.{NoMemory}
 use Rattle.api_serve.specs.Answered.{IsAskedBy}
-use Rattle.api_serve.specs.Session.{Service, Serving}
+use Rattle.api_serve.specs.Session.{Service, Stage}
 use Rattle.api_serve.specs.Run.{Serves}
 use Rattle.store_core.specs.declared.entry.Entry.{Entry}
 use Rattle.api_serve.specs.declared.one.Answered.{Answered}
@@ -19,9 +23,9 @@ use Rattle.api_serve.specs.declared.one.Answered.{Answered}
 abbrev pub Extends : Option State → ℕ → List Entry → List Entry → Exchange → Type 0
 Extends start session before after x = ForSome start (λ base. (earlier : List Exchange) → IsSession base before session earlier → IsSession base after session (earlier ++ x ∷ []))
 
--- the reply and the trace are those of an exchange that asks this
-abbrev pub exchange_of : Asking → Answered → Exchange
-exchange_of asking answered = record { asking = asking; moment = answered.trace.moment; trace = answered.trace.items.items; reply = answered.reply }
+-- the reply and the trace are those of an exchange that asks this, for which these ids were drawn
+abbrev pub exchange_of : Asking → List Tree → Answered → Exchange
+exchange_of asking ids answered = record { asking = asking; moment = answered.trace.moment; ids = ids; trace = answered.trace.items.items; reply = answered.reply }
 
 -- nothing was served: memory was wanting
 pub record IsUnserved (moment : ℤ) (answered : Answered) : Type 0 where
@@ -36,17 +40,18 @@ pub record IsRefusedAs (moment : ℤ) (error : ErrorItem) (answered : Answered) 
   pub reply : IsRefusal error answered.reply ⊎ (answered.reply ≡ NoMemory 0)
 
 -- the command was served as one more exchange of the session
-pub record Performs (session : ℕ) (coll : List ℕ) (command : CommandTree) (moment : ℤ) (start : Option State) (before after : List Entry) (answered : Answered) : Type 0 where
+pub record Performs (session : ℕ) (coll : Option (List ℕ)) (command : CommandTree) (moment : ℤ) (stream : Stream) (start : Option State) (before after : List Entry) (answered : Answered) : Type 0 where
   pub moment_is : answered.trace.moment ≡ moment
-  pub session_is : Extends start session before after (exchange_of (asks_for coll command) answered)
+  pub session_is : Extends start session before after (exchange_of (asks_for coll command) (drawn (draws command) stream) answered)
 
--- the request was served as one more exchange of the session
-pub record Answers (keyspace : List ℕ) (session : ℕ) (moment : ℤ) (request : Request) (start : Option State) (before after : List Entry) (answered : Answered) : Type 0 where
+-- the request was served as one more exchange of the session, and its ids were drawn from the stream, of which this is left
+pub record Answers (keyspace : List ℕ) (session : ℕ) (moment : ℤ) (request : Request) (stream left : Stream) (start : Option State) (before after : List Entry) (answered : Answered) : Type 0 where
   pub asking : Asking
   pub asked : IsAskedBy keyspace request asking
   pub moment_is : answered.trace.moment ≡ moment
-  pub session_is : Extends start session before after (exchange_of asking answered)
+  pub session_is : Extends start session before after (exchange_of asking (drawn (draws_of asking) stream) answered)
+  pub left_is : left ≡ after_drawing (draws_of asking) stream
 
 -- memory ran out before the line's request was served, or before its reply was printed
-abbrev pub CutShort : Service → List ℕ → Serving → Serving → Type 0
+abbrev pub CutShort : Service → List ℕ → Stage → Stage → Type 0
 CutShort service line before after = (after ≡ before) ⊎ ((output : List ℕ) × Serves service before (line ∷ []) output after)

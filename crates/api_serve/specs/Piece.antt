@@ -4,7 +4,7 @@ use Rattle.std.specs.List.{list_all}
 use Rattle.api_serve.specs.Separated.{is_free_of}
 use Rattle.api_serve.specs.Lines.{Splits, BeginsWith, ended_lines, last_line}
 use Rattle.api_serve.specs.Request.{IsRightLine, IsHopeless}
-use Rattle.api_serve.specs.Session.{Service, Serving}
+use Rattle.api_serve.specs.Session.{Service, Stage}
 use Rattle.api_serve.specs.Run.{Serves}
 use Rattle.api_serve.specs.declared.run.Run.{Run}
 use Rattle.api_serve.specs.declared.run.Stop.{Stop}
@@ -20,7 +20,7 @@ BeginsWrong bytes =
     ((line : List ℕ) × (rest : List ℕ) × (bytes ≡ line ++ 10 ∷ rest) × IsTrue (is_free_of 10 line) × (IsRightLine line → ⊥))
     ⊎ (IsTrue (is_free_of 10 bytes) × IsHopeless bytes)
 
-module _ (service : Service) (stage : Serving) (old : Run) (later : Serving) (new : Run) where
+module _ (service : Service) (stage : Stage) (old : Run) (later : Stage) (new : Run) where
   -- the lines that ended were served, and the rest waits
   pub record TakesLines : Type 0 where
     pub lines : List (List ℕ)

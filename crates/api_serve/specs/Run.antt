@@ -6,14 +6,15 @@ use Rattle.reply_env.specs.declared.request.Request.{Request}
 use Rattle.api_serve.specs.Lines.{HasLines, Splits, BeginsWith}
 use Rattle.api_serve.specs.Request.{AskFor, IsRightLine, AreRightLines}
 use Rattle.store_core.specs.State.{State}
+use Rattle.cmd_tasks.specs.Ids.{begins}
 use Rattle.cmd_tasks.specs.Session.{Exchange, IsSession, AreCounted}
 use Rattle.store_core.specs.Counts.{AllBy, opened_in}
-use Rattle.api_serve.specs.Session.{Service, Serving, Makes, AreAsked, AreTraces, AreMoments, reply_lines}
+use Rattle.api_serve.specs.Session.{Service, Serving, Stage, Makes, AreAsked, AreTraces, AreMoments, AreDrawn, reply_lines}
 use Rattle.store_core.specs.declared.entry.Entry.{Entry}
 use Rattle.store_core.specs.declared.entry.Entry.TheVariants.{Opened}
 
 -- between two moments of a session the requests of these lines were served, with these replies
-pub record Serves (service : Service) (before : Serving) (lines : List (List ℕ)) (output : List ℕ) (after : Serving) : Type 0 where
+pub record Serves (service : Service) (before : Stage) (lines : List (List ℕ)) (output : List ℕ) (after : Stage) : Type 0 where
   pub requests : List Request
   pub exchanges : List Exchange
   pub requested : AskFor lines requests
@@ -21,8 +22,10 @@ pub record Serves (service : Service) (before : Serving) (lines : List (List ℕ
   pub made : Makes service before exchanges after
   pub text : output ≡ reply_lines exchanges
 
--- a session was opened behind the history, and served the requests of these lines, with these replies; nothing else was done
-pub record ServesLines (keyspace : List ℕ) (start : Option State) (before after : Serving) (lines : List (List ℕ)) (output : List ℕ) : Type 0 where
+-- A session was opened behind the history, which begins in this state, where told, and whose first write has this number. It
+-- served the requests of these lines, with these replies; its ids were drawn from what the seed, that number and the session's
+-- own give. Nothing else was done.
+pub record ServesLines (keyspace seed : List ℕ) (start : Option State) (first : ℕ) (before after : Serving) (lines : List (List ℕ)) (output : List ℕ) : Type 0 where
   pub requests : List Request
   pub exchanges : List Exchange
   pub requested : AskFor lines requests
@@ -36,6 +39,7 @@ pub record ServesLines (keyspace : List ℕ) (start : Option State) (before afte
   pub session : ForSome start (λ base. IsSession base after.journal number exchanges)
   pub traces : AreTraces after.traces exchanges
   pub moments : ForSome before.times (λ times. AreMoments times exchanges)
+  pub drawn : AreDrawn (begins seed first number) exchanges
   pub text : output ≡ reply_lines exchanges
 
 -- between two moments these bytes were read, where told, and no others

@@ -5,7 +5,7 @@ use Rattle.outside_io.specs.Told.{Writing, Takes}
 use Rattle.api_serve.specs.Separated.{is_free_of}
 use Rattle.api_serve.specs.Lines.{Splits, BeginsWith, ended_lines, last_line}
 use Rattle.api_serve.specs.Request.{IsRightLine}
-use Rattle.api_serve.specs.Session.{Service, Serving}
+use Rattle.api_serve.specs.Session.{Service, Stage}
 use Rattle.api_serve.specs.Run.{Serves}
 use Rattle.api_serve.specs.Piece.{BeginsWrong}
 use Rattle.api_serve.specs.Ends.{IsWriteFault}
@@ -13,7 +13,7 @@ use Rattle.api_serve.specs.declared.run.Run.{Run}
 use Rattle.api_serve.specs.declared.run.RunHow.{RunHow}
 use Rattle.api_serve.specs.declared.run.RunHow.TheVariants.{Done, ReadFault, WriteFault, TooLong, WrongLine, NoMemory}
 
-module _ (service : Service) (stage : Serving) (old : Run) (later : Serving) (before after : Writing) where
+module _ (service : Service) (stage : Stage) (old : Run) (later : Stage) (before after : Writing) where
   -- the lines that ended are served, and their replies written
   pub record ServesPiece (new : Run) : Type 0 where
     pub lines : List (List ℕ)

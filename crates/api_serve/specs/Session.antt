@@ -6,7 +6,9 @@ use Rattle.outside_io.specs.Times.{next_time, times_after}
 use Rattle.reply_env.specs.Reply.{reply_text}
 use Rattle.reply_env.specs.declared.request.Request.{Request}
 use Rattle.store_core.specs.State.{State}
-use Rattle.cmd_tasks.specs.Session.{Exchange, IsSession}
+use Rattle.rand_core.specs.Stream.{Stream}
+use Rattle.cmd_tasks.specs.Ids.{drawn, after_drawing}
+use Rattle.cmd_tasks.specs.Session.{Exchange, draws_of, IsSession}
 use Rattle.api_serve.specs.Grown.{Grown}
 use Rattle.api_serve.specs.Answered.{IsAskedBy, IsTraceOf}
 use Rattle.store_core.specs.declared.entry.Entry.{Entry}
@@ -40,21 +42,39 @@ abbrev pub times_behind : List Exchange → List ℤ → List ℤ
 times_behind [] times = times
 times_behind (x ∷ exchanges) times = times_behind exchanges (times_after times)
 
+-- the ids of each are the next that are drawn from this stream, as many as the request needs, in order
+abbrev pub AreDrawn : Stream → List Exchange → Type 0
+AreDrawn stream [] = ⊤
+AreDrawn stream (x ∷ exchanges) = (x.ids ≡ drawn (draws_of x.asking) stream) × AreDrawn (after_drawing (draws_of x.asking) stream) exchanges
+
+-- what is left of it behind them
+abbrev pub stream_behind : List Exchange → Stream → Stream
+stream_behind [] stream = stream
+stream_behind (x ∷ exchanges) stream = stream_behind exchanges (after_drawing (draws_of x.asking) stream)
+
 -- whose requests are served: those of this keyspace, by the session of this number, in a history that begins in this state, where told
 pub record Service : Type 0 where
   pub keyspace : List ℕ
   pub start : Option State
   pub number : ℕ
 
--- what is seen of it at a moment: the history, the keeper's count of faults, the traces of the requests so far, and the times that the clock gives from then on, where told
+-- what is seen at a moment: the history, the keeper's count of faults, the traces of the session's requests so far, and the times that the clock gives from then on, where told
 pub record Serving : Type 0 where
   pub journal : List Entry
   pub failed : ℕ
   pub traces : List Trace
   pub times : Option (List ℤ)
 
+-- the same within a session, with the stream that its next ids are drawn from
+pub record Stage : Type 0 where
+  pub journal : List Entry
+  pub failed : ℕ
+  pub traces : List Trace
+  pub times : Option (List ℤ)
+  pub ids : Stream
+
 -- between two moments the session made these exchanges, and nothing else was done
-pub record Makes (service : Service) (before : Serving) (exchanges : List Exchange) (after : Serving) : Type 0 where
+pub record Makes (service : Service) (before : Stage) (exchanges : List Exchange) (after : Stage) : Type 0 where
   pub grown : Grown service.number before.journal before.failed after.journal after.failed
   pub session : ForSome service.start (λ base. (earlier : List Exchange) → IsSession base before.journal service.number earlier → IsSession base after.journal service.number (earlier ++ exchanges))
   pub more : List Trace
@@ -62,3 +82,5 @@ pub record Makes (service : Service) (before : Serving) (exchanges : List Exchan
   pub kept : AreTraces more exchanges
   pub moments : ForSome before.times (λ times. AreMoments times exchanges)
   pub clock : after.times ≡ option_map (times_behind exchanges) before.times
+  pub drawn : AreDrawn before.ids exchanges
+  pub left : after.ids ≡ stream_behind exchanges before.ids

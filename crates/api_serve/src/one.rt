@@ -1,28 +1,33 @@
 //! One request of a session.
-ghost use Rattle.std.specs.Prelude.{◌≡◌, ◌++◌, ◌∷◌, ◌<◌, ◌⊎◌, ℕ, ℤ, List, [], IfOk, OnOk, OnErr, Err, IfSome, Some};
+ghost use Rattle.std.specs.Prelude.{◌≡◌, ◌++◌, ◌∷◌, ◌<◌, ◌⊎◌, ℕ, ℤ, List, [], IfOk, OnOk, OnErr, Err, IfSome, IsTrue, option_map};
 ghost use Rattle.std.specs.Option.{ForSome};
+ghost use Rattle.doc_paths.specs.Name.{is_collection_name};
 ghost use Rattle.reply_env.specs.Reply.{reply_text};
-ghost use Rattle.cmd_tasks.specs.Session.{Exchange, IsSession};
+ghost use Rattle.cmd_tasks.specs.Ids.{after_drawing, stream_of_ids};
+ghost use Rattle.cmd_tasks.specs.Jobs.{draws};
+ghost use Rattle.cmd_tasks.specs.Session.{Exchange};
+ghost use Rattle.cmd_tasks.specs.Stands.{IsTargeted};
 ghost use Rattle.store_core.specs.Counts.{opened_in};
 ghost use Rattle.store_core.specs.Store.{IsLawful, SameBase};
 ghost use Rattle.api_serve.specs.Grown.{Grown};
 ghost use Rattle.api_serve.specs.Answered.{IsAskedBy, IsTraceOf};
 ghost use Rattle.api_serve.specs.Session.{Makes, Service};
-ghost use Rattle.api_serve.specs.Shown.{service_of, serving_of};
+ghost use Rattle.api_serve.specs.Shown.{service_of, stage_of};
 ghost use Rattle.api_serve.specs.Request.{IsRightLine};
 ghost use Rattle.api_serve.specs.Run.{Serves};
+ghost use Rattle.cmd_grammar.specs.Asked.{target};
 ghost use Rattle.cmd_grammar.specs.Commands.{command_tree, IsAskable};
 ghost use Rattle.api_serve.specs.One.{Answers, Performs, IsUnserved, IsRefusedAs, CutShort};
 
 use crate::request::{is_skipped, request_of};
 use cmd_grammar::{Command, CommandFault, read_request};
-use cmd_tasks::{Served, Task, Trace, a_request_begins, serve};
+use cmd_tasks::{Ids, Served, Task, Trace, a_request_begins, serve};
 use col_keeper::Keeper;
 use doc_paths::CollName;
 use json_tree::Text;
 use name_tables::Code;
 use outside_io::{Clock, NoMemory};
-use reply_env::{ErrorItem, Reply, Request, print_reply, refusal};
+use reply_env::{ErrorItem, Place, Reply, Request, print_reply, refusal};
 use std::alloc::Global;
 use store_core::Store;
 
@@ -65,16 +70,43 @@ fn refused(moment: i64, alloc: Global, code: Code, message: Text) -> Answered
     }
 }
 
-// The collection of a request's path.
-fn collection_of(alloc: Global, request: &Request) -> Option<CollName>
-    ensures { IfSome result (λ coll. request.now.place.collection ≡ Some coll) }
+// The collection of a name that collections may have.
+fn collection_of(alloc: Global, name: &str) -> Result<CollName, NoMemory>
+    requires { IsTrue (is_collection_name name.now) }
+    ensures { IfOk result (λ coll. coll ≡ name.now) }
 {
-    let Some(name) = &request.place.collection else {
-        return None;
+    match CollName::read(alloc, name) {
+        Ok(coll) => Ok(coll),
+        Err(_) => Err(NoMemory),
+    }
+}
+
+// The name of the collection that a command is about, if it is about one.
+fn target_name<'a>(place: &'a Place, command: &'a Command) -> Option<&'a str>
+    ensures { option_map (λ name. name.now) result ≡ target place.now (command_tree command.now) }
+{
+    match command {
+        Command::FindCollections => None,
+        Command::CreateCollection { name } => Some(name.text()),
+        Command::DeleteCollection { name } => Some(name.text()),
+        _ => match &place.collection {
+            Some(name) => Some(name.as_str()),
+            None => None,
+        },
+    }
+}
+
+// The collection that a command is about, if it is about one.
+fn target_of(alloc: Global, place: &Place, command: &Command) -> Result<Option<CollName>, NoMemory>
+    requires { IfSome (target place.now (command_tree command.now)) (λ name. IsTrue (is_collection_name name)) }
+    ensures { IfOk result (λ coll. coll ≡ target place.now (command_tree command.now)) }
+{
+    let Some(name) = target_name(place, command) else {
+        return Ok(None);
     };
-    match CollName::read(alloc, name.as_str()) {
-        Ok(coll) => Some(coll),
-        Err(_) => None,
+    match collection_of(alloc, name) {
+        Ok(coll) => Ok(Some(coll)),
+        Err(fault) => Err(fault),
     }
 }
 
@@ -82,19 +114,22 @@ fn collection_of(alloc: Global, request: &Request) -> Option<CollName>
 fn perform<K: Keeper>(
     alloc: Global,
     session: u64,
-    coll: CollName,
+    coll: Option<CollName>,
     moment: i64,
     command: Command,
+    ids: &mut Ids,
     store: &mut Store<K>,
 ) -> Answered
     requires known { session < opened_in store.old.journal }
     requires ready { IsAskable (command_tree command) }
-    ensures performs { Performs session coll (command_tree command) moment store.old.start store.old.journal store.new.journal result }
+    requires targeted { IsTargeted coll (command_tree command) }
+    ensures performs { Performs session coll (command_tree command) moment (stream_of_ids ids.old) store.old.start store.old.journal store.new.journal result }
+    ensures drawn { stream_of_ids ids.new ≡ after_drawing (draws (command_tree command)) (stream_of_ids ids.old) }
     ensures grown { Grown session store.old.journal (K.failed store.old.keeper) store.new.journal (K.failed store.new.keeper) }
     ensures base { SameBase store.old store.new }
     ensures lawful { IsLawful store.new }
 {
-    let task = Task::new(alloc, session, coll, moment, command);
+    let task = Task::new(alloc, session, coll, moment, command, ids);
     let Served { reply, trace } = serve(alloc, store, task);
     Answered { reply, trace }
 }
@@ -106,10 +141,11 @@ fn answer<K: Keeper>(
     session: u64,
     moment: i64,
     request: &Request,
+    ids: &mut Ids,
     store: &mut Store<K>,
 ) -> Answered
     requires known { session < opened_in store.old.journal }
-    ensures answers { Answers keyspace.now session moment request.now store.old.start store.old.journal store.new.journal result }
+    ensures answers { Answers keyspace.now session moment request.now (stream_of_ids ids.old) (stream_of_ids ids.new) store.old.start store.old.journal store.new.journal result }
     ensures grown { Grown session store.old.journal (K.failed store.old.keeper) store.new.journal (K.failed store.new.keeper) }
     ensures base { SameBase store.old store.new }
     ensures lawful { IsLawful store.new }
@@ -117,9 +153,9 @@ fn answer<K: Keeper>(
     store.journal_len();
     a_request_begins();
     match read_request(alloc, keyspace, request) {
-        Ok(command) => match collection_of(alloc, request) {
-            Some(coll) => perform(alloc, session, coll, moment, command, store),
-            None => {
+        Ok(command) => match target_of(alloc, &request.place, &command) {
+            Ok(coll) => perform(alloc, session, coll, moment, command, ids, store),
+            Err(_) => {
                 drop(command);
                 unread(moment, alloc)
             }
@@ -137,15 +173,16 @@ fn serve_request<K: Keeper, C: Clock>(
     request: &Request,
     store: &mut Store<K>,
     clock: &mut C,
+    ids: &mut Ids,
     traces: &mut Vec<Trace>,
 ) -> Result<Reply, NoMemory>
     requires known { session < opened_in store.old.journal }
     ensures made { IfOk result (λ reply. (x : Exchange) × (x.reply ≡ reply) × IsAskedBy keyspace.now request.now x.asking
         × Makes (service_of keyspace.now store.old.start session)
-        (serving_of store.old.journal (K.failed store.old.keeper) traces.old.items (C.times clock.old)) (x ∷ [])
-        (serving_of store.new.journal (K.failed store.new.keeper) traces.new.items (C.times clock.new))) }
-    ensures kept { OnErr result (serving_of store.new.journal (K.failed store.new.keeper) traces.new.items (C.times clock.new)
-        ≡ serving_of store.old.journal (K.failed store.old.keeper) traces.old.items (C.times clock.old)) }
+        (stage_of store.old.journal (K.failed store.old.keeper) traces.old.items (C.times clock.old) (stream_of_ids ids.old)) (x ∷ [])
+        (stage_of store.new.journal (K.failed store.new.keeper) traces.new.items (C.times clock.new) (stream_of_ids ids.new))) }
+    ensures kept { OnErr result (stage_of store.new.journal (K.failed store.new.keeper) traces.new.items (C.times clock.new) (stream_of_ids ids.new)
+        ≡ stage_of store.old.journal (K.failed store.old.keeper) traces.old.items (C.times clock.old) (stream_of_ids ids.old)) }
     ensures base { SameBase store.old store.new }
     ensures known { session < opened_in store.new.journal }
     ensures lawful { IsLawful store.new }
@@ -155,7 +192,7 @@ fn serve_request<K: Keeper, C: Clock>(
         return Err(NoMemory);
     }
     let moment = clock.now_ms();
-    let Answered { reply, trace } = answer(alloc, keyspace, session, moment, request, store);
+    let Answered { reply, trace } = answer(alloc, keyspace, session, moment, request, ids, store);
     traces.push_reserved(trace);
     Ok(reply)
 }
@@ -184,20 +221,21 @@ pub fn serve_line<K: Keeper, C: Clock>(
     line: &[u8],
     store: &mut Store<K>,
     clock: &mut C,
+    ids: &mut Ids,
     traces: &mut Vec<Trace>,
     out: &mut Vec<u8>,
 ) -> Result<(), LineStop>
     requires known { session < opened_in store.old.journal }
     ensures served { OnOk result ((output : List ℕ) × (out.new.items ≡ out.old.items ++ output)
         × Serves (service_of keyspace.now store.old.start session)
-        (serving_of store.old.journal (K.failed store.old.keeper) traces.old.items (C.times clock.old)) (line.now ∷ []) output
-        (serving_of store.new.journal (K.failed store.new.keeper) traces.new.items (C.times clock.new))) }
+        (stage_of store.old.journal (K.failed store.old.keeper) traces.old.items (C.times clock.old) (stream_of_ids ids.old)) (line.now ∷ []) output
+        (stage_of store.new.journal (K.failed store.new.keeper) traces.new.items (C.times clock.new) (stream_of_ids ids.new))) }
     ensures wrong { result ≡ Err LineStop.Wrong → (IsRightLine line.now → ⊥)
-        × (serving_of store.new.journal (K.failed store.new.keeper) traces.new.items (C.times clock.new)
-        ≡ serving_of store.old.journal (K.failed store.old.keeper) traces.old.items (C.times clock.old)) }
+        × (stage_of store.new.journal (K.failed store.new.keeper) traces.new.items (C.times clock.new) (stream_of_ids ids.new)
+        ≡ stage_of store.old.journal (K.failed store.old.keeper) traces.old.items (C.times clock.old) (stream_of_ids ids.old)) }
     ensures short { result ≡ Err LineStop.NoMemory → CutShort (service_of keyspace.now store.old.start session) line.now
-        (serving_of store.old.journal (K.failed store.old.keeper) traces.old.items (C.times clock.old))
-        (serving_of store.new.journal (K.failed store.new.keeper) traces.new.items (C.times clock.new)) }
+        (stage_of store.old.journal (K.failed store.old.keeper) traces.old.items (C.times clock.old) (stream_of_ids ids.old))
+        (stage_of store.new.journal (K.failed store.new.keeper) traces.new.items (C.times clock.new) (stream_of_ids ids.new)) }
     ensures kept { OnErr result (out.new.items ≡ out.old.items) }
     ensures base { SameBase store.old store.new }
     ensures known { session < opened_in store.new.journal }
@@ -212,7 +250,9 @@ pub fn serve_line<K: Keeper, C: Clock>(
         Ok(None) => return Err(LineStop::Wrong),
         Err(_) => return Err(LineStop::NoMemory),
     };
-    match serve_request(alloc, keyspace, session, &request, store, clock, traces) {
+    match serve_request(
+        alloc, keyspace, session, &request, store, clock, ids, traces,
+    ) {
         Ok(reply) => match add_line(alloc, &reply, out) {
             Ok(()) => Ok(()),
             Err(_) => Err(LineStop::NoMemory),

@@ -2,13 +2,14 @@
 ghost use Rattle.std.specs.Prelude.{◌≡◌, ◌++◌, ◌+◌, ◌^◌, ◌<◌, ℕ, List, [], length, Err, IfErr, OnOk, OnErr};
 ghost use Rattle.store_core.specs.Counts.{opened_in};
 ghost use Rattle.store_core.specs.Store.{IsLawful, SameBase};
-ghost use Rattle.api_serve.specs.Shown.{service_of, serving_of};
+ghost use Rattle.cmd_tasks.specs.Ids.{stream_of_ids};
+ghost use Rattle.api_serve.specs.Shown.{service_of, stage_of};
 ghost use Rattle.api_serve.specs.Piece.{fed, TakesLines, StopsAt, TakesLast, StopsLast};
 
 use crate::lines::Lines;
 use crate::one::{LineStop, serve_line};
 use crate::request::is_hopeless;
-use cmd_tasks::Trace;
+use cmd_tasks::{Ids, Trace};
 use col_keeper::Keeper;
 use outside_io::Clock;
 use std::alloc::Global;
@@ -48,23 +49,25 @@ pub enum Stop {
 }
 
 /// What stands between two pieces of the input: the bytes that wait for the end of their line, the replies that aren't
-/// written yet, the number of lines so far, and the traces of their requests.
+/// written yet, the number of lines so far, what their requests' ids are drawn from, and their traces.
 #[derive(Drop)]
 pub struct Run {
     pub lines: Lines,
     pub out: Vec<u8>,
     pub count: u64,
+    pub ids: Ids,
     pub traces: Vec<Trace>,
 }
 
 /// The start of a run.
-pub fn start(alloc: Global) -> Run
-    ensures { (result.lines ≡ []) × (result.out.items ≡ []) × (result.count ≡ 0) × (result.traces.items ≡ []) }
+pub fn start(alloc: Global, ids: Ids) -> Run
+    ensures { (result.lines ≡ []) × (result.out.items ≡ []) × (result.count ≡ 0) × (result.ids ≡ ids) × (result.traces.items ≡ []) }
 {
     Run {
         lines: Lines::new(alloc),
         out: Vec::new(alloc),
         count: 0,
+        ids,
         traces: Vec::new(alloc),
     }
 }
@@ -81,11 +84,11 @@ fn serve_lines<K: Keeper, C: Clock>(
     requires known { session < opened_in store.old.journal }
     requires room { run.old.count + length run.old.lines + 1 < 2 ^ 64 }
     ensures taken { OnOk result (TakesLines (service_of keyspace.now store.old.start session)
-        (serving_of store.old.journal (K.failed store.old.keeper) run.old.traces.items (C.times clock.old)) run.old
-        (serving_of store.new.journal (K.failed store.new.keeper) run.new.traces.items (C.times clock.new)) run.new) }
+        (stage_of store.old.journal (K.failed store.old.keeper) run.old.traces.items (C.times clock.old) (stream_of_ids run.old.ids)) run.old
+        (stage_of store.new.journal (K.failed store.new.keeper) run.new.traces.items (C.times clock.new) (stream_of_ids run.new.ids)) run.new) }
     ensures stopped { IfErr result (StopsAt (service_of keyspace.now store.old.start session)
-        (serving_of store.old.journal (K.failed store.old.keeper) run.old.traces.items (C.times clock.old)) run.old
-        (serving_of store.new.journal (K.failed store.new.keeper) run.new.traces.items (C.times clock.new)) run.new) }
+        (stage_of store.old.journal (K.failed store.old.keeper) run.old.traces.items (C.times clock.old) (stream_of_ids run.old.ids)) run.old
+        (stage_of store.new.journal (K.failed store.new.keeper) run.new.traces.items (C.times clock.new) (stream_of_ids run.new.ids)) run.new) }
     ensures base { SameBase store.old store.new }
     ensures known { session < opened_in store.new.journal }
     ensures lawful { IsLawful store.new }
@@ -101,6 +104,7 @@ fn serve_lines<K: Keeper, C: Clock>(
             line,
             store,
             clock,
+            &mut run.ids,
             &mut run.traces,
             &mut run.out,
         ) {
@@ -131,11 +135,11 @@ pub fn take_piece<K: Keeper, C: Clock>(
     requires known { session < opened_in store.old.journal }
     requires room { run.old.count + length run.old.lines + length piece.now + 1 < 2 ^ 64 }
     ensures taken { OnOk result (TakesLines (service_of keyspace.now store.old.start session)
-        (serving_of store.old.journal (K.failed store.old.keeper) run.old.traces.items (C.times clock.old)) (fed run.old piece.now)
-        (serving_of store.new.journal (K.failed store.new.keeper) run.new.traces.items (C.times clock.new)) run.new) }
+        (stage_of store.old.journal (K.failed store.old.keeper) run.old.traces.items (C.times clock.old) (stream_of_ids run.old.ids)) (fed run.old piece.now)
+        (stage_of store.new.journal (K.failed store.new.keeper) run.new.traces.items (C.times clock.new) (stream_of_ids run.new.ids)) run.new) }
     ensures stopped { IfErr result (StopsAt (service_of keyspace.now store.old.start session)
-        (serving_of store.old.journal (K.failed store.old.keeper) run.old.traces.items (C.times clock.old)) (fed run.old piece.now)
-        (serving_of store.new.journal (K.failed store.new.keeper) run.new.traces.items (C.times clock.new)) run.new) }
+        (stage_of store.old.journal (K.failed store.old.keeper) run.old.traces.items (C.times clock.old) (stream_of_ids run.old.ids)) (fed run.old piece.now)
+        (stage_of store.new.journal (K.failed store.new.keeper) run.new.traces.items (C.times clock.new) (stream_of_ids run.new.ids)) run.new) }
     ensures base { SameBase store.old store.new }
     ensures known { session < opened_in store.new.journal }
     ensures lawful { IsLawful store.new }
@@ -159,11 +163,11 @@ pub fn take_last<K: Keeper, C: Clock>(
     requires known { session < opened_in store.old.journal }
     requires room { run.old.count + 1 < 2 ^ 64 }
     ensures taken { OnOk result (TakesLast (service_of keyspace.now store.old.start session)
-        (serving_of store.old.journal (K.failed store.old.keeper) run.old.traces.items (C.times clock.old)) run.old
-        (serving_of store.new.journal (K.failed store.new.keeper) run.new.traces.items (C.times clock.new)) run.new) }
+        (stage_of store.old.journal (K.failed store.old.keeper) run.old.traces.items (C.times clock.old) (stream_of_ids run.old.ids)) run.old
+        (stage_of store.new.journal (K.failed store.new.keeper) run.new.traces.items (C.times clock.new) (stream_of_ids run.new.ids)) run.new) }
     ensures stopped { IfErr result (StopsLast (service_of keyspace.now store.old.start session)
-        (serving_of store.old.journal (K.failed store.old.keeper) run.old.traces.items (C.times clock.old)) run.old
-        (serving_of store.new.journal (K.failed store.new.keeper) run.new.traces.items (C.times clock.new)) run.new) }
+        (stage_of store.old.journal (K.failed store.old.keeper) run.old.traces.items (C.times clock.old) (stream_of_ids run.old.ids)) run.old
+        (stage_of store.new.journal (K.failed store.new.keeper) run.new.traces.items (C.times clock.new) (stream_of_ids run.new.ids)) run.new) }
     ensures base { SameBase store.old store.new }
     ensures known { session < opened_in store.new.journal }
     ensures lawful { IsLawful store.new }
@@ -181,6 +185,7 @@ pub fn take_last<K: Keeper, C: Clock>(
         part,
         store,
         clock,
+        &mut run.ids,
         &mut run.traces,
         &mut run.out,
     ) {

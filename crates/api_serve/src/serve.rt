@@ -6,14 +6,16 @@ ghost use Rattle.outside_io.specs.Told.{then_left, Takes, CountsGrow};
 ghost use Rattle.api_serve.specs.Run.{HasRead, Serves, ServesLines};
 ghost use Rattle.store_core.specs.Counts.{opened_in};
 ghost use Rattle.store_core.specs.Store.{IsLawful, SameBase};
+ghost use Rattle.rand_core.specs.Stream.{Stream};
+ghost use Rattle.cmd_tasks.specs.Ids.{stream_of_ids};
 ghost use Rattle.api_serve.specs.Ends.{EndsRun, IsWriteEnd};
 ghost use Rattle.api_serve.specs.Piece.{fed};
 ghost use Rattle.api_serve.specs.Sent.{ServesPiece, EndsPiece, FinishesAs};
-ghost use Rattle.api_serve.specs.Shown.{service_of, serving_of};
+ghost use Rattle.api_serve.specs.Shown.{service_of, serving_of, stage_of};
 ghost use Rattle.cmd_tasks.specs.declared.trace.Trace.{Trace as Kept};
 
 use crate::run::{Run, RunHow, Stop, start, take_last, take_piece};
-use cmd_tasks::{Trace, a_session_opens};
+use cmd_tasks::{Ids, Trace, a_session_opens};
 use col_keeper::Keeper;
 use outside_io::{Clock, IoFault, Sink, Source, write_all};
 use std::alloc::{AllocError, Global};
@@ -93,12 +95,12 @@ fn serve_piece<W: Sink, K: Keeper, C: Clock>(
     requires room { run.old.count + length run.old.lines + length piece.now + 1 < 2 ^ 64 }
     requires sent { run.old.out.items ≡ [] }
     ensures served { OnOk result (ServesPiece (service_of keyspace.now store.old.start session)
-        (serving_of store.old.journal (K.failed store.old.keeper) run.old.traces.items (C.times clock.old)) (fed run.old piece.now)
-        (serving_of store.new.journal (K.failed store.new.keeper) run.new.traces.items (C.times clock.new))
+        (stage_of store.old.journal (K.failed store.old.keeper) run.old.traces.items (C.times clock.old) (stream_of_ids run.old.ids)) (fed run.old piece.now)
+        (stage_of store.new.journal (K.failed store.new.keeper) run.new.traces.items (C.times clock.new) (stream_of_ids run.new.ids))
         (W.writing sink.old) (W.writing sink.new) run.new) }
     ensures stopped { IfErr result (EndsPiece (service_of keyspace.now store.old.start session)
-        (serving_of store.old.journal (K.failed store.old.keeper) run.old.traces.items (C.times clock.old)) (fed run.old piece.now)
-        (serving_of store.new.journal (K.failed store.new.keeper) run.new.traces.items (C.times clock.new))
+        (stage_of store.old.journal (K.failed store.old.keeper) run.old.traces.items (C.times clock.old) (stream_of_ids run.old.ids)) (fed run.old piece.now)
+        (stage_of store.new.journal (K.failed store.new.keeper) run.new.traces.items (C.times clock.new) (stream_of_ids run.new.ids))
         (W.writing sink.old) (W.writing sink.new)) }
     ensures grows { CountsGrow (W.writing sink.old) (W.writing sink.new) }
     ensures base { SameBase store.old store.new }
@@ -130,8 +132,8 @@ fn finish<W: Sink, K: Keeper, C: Clock>(
     requires room { run.old.count + 1 < 2 ^ 64 }
     requires sent { run.old.out.items ≡ [] }
     ensures finished { FinishesAs (service_of keyspace.now store.old.start session)
-        (serving_of store.old.journal (K.failed store.old.keeper) run.old.traces.items (C.times clock.old)) run.old
-        (serving_of store.new.journal (K.failed store.new.keeper) run.new.traces.items (C.times clock.new))
+        (stage_of store.old.journal (K.failed store.old.keeper) run.old.traces.items (C.times clock.old) (stream_of_ids run.old.ids)) run.old
+        (stage_of store.new.journal (K.failed store.new.keeper) run.new.traces.items (C.times clock.new) (stream_of_ids run.new.ids))
         (W.writing sink.old) (W.writing sink.new) result }
     ensures grows { CountsGrow (W.writing sink.old) (W.writing sink.new) }
     ensures base { SameBase store.old store.new }
@@ -163,8 +165,8 @@ fn serve_pieces<S: Source, W: Sink, K: Keeper, C: Clock>(
     requires room { 0 < length buffer.old }
     requires begun { (run.old.lines ≡ []) × (run.old.out.items ≡ []) × (run.old.count ≡ 0) }
     ensures ended { EndsRun (λ lines output. Serves (service_of keyspace.now store.old.start session)
-        (serving_of store.old.journal (K.failed store.old.keeper) run.old.traces.items (C.times clock.old)) lines output
-        (serving_of store.new.journal (K.failed store.new.keeper) run.new.traces.items (C.times clock.new)))
+        (stage_of store.old.journal (K.failed store.old.keeper) run.old.traces.items (C.times clock.old) (stream_of_ids run.old.ids)) lines output
+        (stage_of store.new.journal (K.failed store.new.keeper) run.new.traces.items (C.times clock.new) (stream_of_ids run.new.ids)))
         (S.reading source.old) (S.reading source.new) (W.writing sink.old) (W.writing sink.new) result }
     ensures bounded { (count : ℕ) × (count ≤ 2 ^ 40) × HasRead (S.reading source.old) (S.reading source.new) count }
     ensures base { SameBase store.old store.new }
@@ -212,22 +214,23 @@ fn serve_session<S: Source, W: Sink, K: Keeper, C: Clock>(
     sink: &mut W,
     store: &mut Store<K>,
     clock: &mut C,
+    ids: Ids,
     buffer: &mut [u8],
     lists: Vec<Vec<Trace>>,
 ) -> RunEnd
     requires known { session < opened_in store.old.journal }
     requires room { 0 < length buffer.old }
     requires lists { (lists.items ≡ []) × (0 < vec_capacity lists) }
-    ensures ended { (traces : List Kept) × (map (λ list. list.items) result.traces.items ≡ traces ∷ [])
+    ensures ended { (traces : List Kept) × (left : Stream) × (map (λ list. list.items) result.traces.items ≡ traces ∷ [])
         × EndsRun (λ lines output. Serves (service_of keyspace.now store.old.start session)
-        (serving_of store.old.journal (K.failed store.old.keeper) [] (C.times clock.old)) lines output
-        (serving_of store.new.journal (K.failed store.new.keeper) traces (C.times clock.new)))
+        (stage_of store.old.journal (K.failed store.old.keeper) [] (C.times clock.old) (stream_of_ids ids)) lines output
+        (stage_of store.new.journal (K.failed store.new.keeper) traces (C.times clock.new) left))
         (S.reading source.old) (S.reading source.new) (W.writing sink.old) (W.writing sink.new) result.how }
     ensures bounded { (count : ℕ) × (count ≤ 2 ^ 40) × HasRead (S.reading source.old) (S.reading source.new) count }
     ensures base { SameBase store.old store.new }
     ensures lawful { IsLawful store.new }
 {
-    let mut run = start(alloc);
+    let mut run = start(alloc, ids);
     let how = serve_pieces(
         alloc, keyspace, session, source, sink, store, clock, buffer, &mut run,
     );
@@ -235,6 +238,7 @@ fn serve_session<S: Source, W: Sink, K: Keeper, C: Clock>(
         lines: _,
         out: _,
         count: _,
+        ids: _,
         traces,
     } = run;
     let mut lists = lists;
@@ -243,7 +247,8 @@ fn serve_session<S: Source, W: Sink, K: Keeper, C: Clock>(
 }
 
 /// Opens a session in the store, serves the lines of a source in it, one after another, and writes their replies to a
-/// sink. Each request is of the clock's time when it begins. `seed` is what ids are made from, once they are.
+/// sink. Each request is of the clock's time when it begins. Ids are drawn from what `seed`, the number of the first write
+/// after the store's base and the session's number give.
 pub fn run_lines<S: Source, W: Sink, K: Keeper, C: Clock>(
     alloc: Global,
     keyspace: &str,
@@ -251,11 +256,11 @@ pub fn run_lines<S: Source, W: Sink, K: Keeper, C: Clock>(
     sink: &mut W,
     store: &mut Store<K>,
     clock: &mut C,
-    _seed: &[u8; 28],
+    seed: &[u8; 28],
 ) -> RunEnd
     // What was read, served and written, by how the run ended; or memory ran out before a session was opened.
     ensures ended { ((traces : List Kept) × (map (λ list. list.items) result.traces.items ≡ traces ∷ [])
-        × EndsRun (ServesLines keyspace.now store.old.start
+        × EndsRun (ServesLines keyspace.now seed.now store.old.start store.old.first
         (serving_of store.old.journal (K.failed store.old.keeper) [] (C.times clock.old))
         (serving_of store.new.journal (K.failed store.new.keeper) traces (C.times clock.new)))
         (S.reading source.old) (S.reading source.new) (W.writing sink.old) (W.writing sink.new) result.how)
@@ -278,8 +283,9 @@ pub fn run_lines<S: Source, W: Sink, K: Keeper, C: Clock>(
         return unopened(alloc);
     };
     a_session_opens();
+    let ids = Ids::new(seed, store.base_tx(), session);
     let buffer = buffer.as_mut_slice();
     serve_session(
-        alloc, keyspace, session, source, sink, store, clock, buffer, lists,
+        alloc, keyspace, session, source, sink, store, clock, ids, buffer, lists,
     )
 }

@@ -1,57 +1,91 @@
--- The tests of a document, joined.
-use Rattle.std.proofs.Common.{◌≡◌, [], ◌∷◌, Option, Some, None, MatchOption, refl, sym, ◌∙◌, subst, false}
-use Rattle.std.specs.Prelude.{Result, Ok, Err, ⊤}
-use Rattle.std.specs.Option.{option_or}
-use Rattle.json_tree.specs.Tree.{Tree, null, boolean, number, text, date, list, object}
-use Rattle.json_tree.specs.Id.{IsId}
+-- Documents that passed their tests may be inserted, or replace others.
+use Rattle.std.proofs.Common.{◌≡◌, ℕ, true, false, not, ◌==◌, List, [], ◌∷◌, length, ◌||◌, Option, Some, None, MatchOption, refl, sym, subst}
+use Rattle.std.specs.List.{list_all, AllByRecursion}
+use Rattle.std.specs.Option.{option_map, option_and_then}
+use Rattle.std.proofs.lemmas.Bool.{and_parts}
+use Rattle.json_tree.specs.Tree.{Tree, null, boolean, number, text, date, list, object, Members, list_of_elements}
+use Rattle.json_tree.specs.Id.{IsId, id_fault}
 use Rattle.json_tree.specs.Doc.{id_in, IsDocument, has_dollar_name}
+use Rattle.doc_limits.specs.Names.{first_bad_name, names_in}
 use Rattle.doc_limits.specs.Limits.{broken}
-use Rattle.reply_env.specs.Messages.{bad_id_kind}
-use Rattle.reply_env.specs.declared.reply.ErrorItem.{ErrorItem}
-use Rattle.cmd_grammar.specs.First.{first_of}
-use Rattle.cmd_grammar.specs.Documents.{id_kind_refusal, empty_id_refusal}
-use Rattle.cmd_grammar.specs.Commands.{IsStorable}
-use Rattle.cmd_grammar.specs.Answers.{Refuses, Passes}
-use Rattle.cmd_grammar.specs.declared.fault.CommandFault.{CommandFault}
-use Rattle.cmd_grammar.proofs.Order.{goes_on, refuses_first, refuses_later}
+use Rattle.doc_limits.proofs.Named.{all_plain}
+use Rattle.doc_limits.proofs.Dollars.{no_dollar_where_none}
+use Rattle.update_ops.specs.Faults.{is_object}
+use Rattle.update_ops.specs.Upsert.{with_id, IsReplacement}
+use Rattle.cmd_grammar.specs.First.{first_of, first_by}
+use Rattle.cmd_grammar.specs.Documents.{id_kind_refusal, empty_id_refusal, name_refusal, limit_refusal, replacing_refusal, document_refusal}
+use Rattle.cmd_grammar.specs.Commands.{stand_in, under, under_own, IsInsertable}
+use Rattle.cmd_grammar.specs.Parts.{elements_in}
+use Rattle.cmd_grammar.specs.Rows.{are_objects}
+use Rattle.cmd_grammar.proofs.Order.{neither_fires}
 
-pub id_absent : (t : Tree) (r : CommandFault) → None ≡ id_in t → Refuses (Some bad_id_kind) r → Refuses (first_of (id_kind_refusal (id_in t) ∷ empty_id_refusal (id_in t) ∷ [])) r
-id_absent t r e h = subst (λ o. Refuses (first_of (id_kind_refusal o ∷ empty_id_refusal o ∷ [])) r) e h
+none_mapped : {X Y : Type 0} (f : X → Y) (o : Option X) → option_map f o ≡ None → o ≡ None
+none_mapped f None e = refl
+none_mapped f (Some x) e = absurd (Prim.cc e)
 
-pub id_present : (t id : Tree) (r : Result (Unit {0}) CommandFault) → Some id ≡ id_in t → Passes (first_of (id_kind_refusal (Some id) ∷ empty_id_refusal (Some id) ∷ [])) (λ _. ⊤) r → Passes (first_of (id_kind_refusal (id_in t) ∷ empty_id_refusal (id_in t) ∷ [])) (λ _. ⊤) r
-id_present t id r e h = subst (λ o. Passes (first_of (id_kind_refusal o ∷ empty_id_refusal o ∷ [])) (λ _. ⊤) r) e h
+-- ---- names and ids
 
-grouped : (a b n l : Option ErrorItem) → first_of (a ∷ b ∷ n ∷ l ∷ []) ≡ option_or (first_of (a ∷ b ∷ [])) (option_or n l)
-grouped (Some a) b n l = refl
-grouped None (Some b) n l = refl
-grouped None None (Some n) l = refl
-grouped None None None (Some l) = refl
-grouped None None None None = refl
+abbrev nothing : Option ℕ
+nothing = None
 
-pub id_fires : (a b n l : Option ErrorItem) (r : CommandFault) → Refuses (first_of (a ∷ b ∷ [])) r → Refuses (first_of (a ∷ b ∷ n ∷ l ∷ [])) r
-id_fires a b n l r h = subst (λ o. Refuses o r) (sym (grouped a b n l)) (refuses_first (first_of (a ∷ b ∷ [])) (option_or n l) r h)
+no_dollar : (t : Tree) → first_bad_name t ≡ None → has_dollar_name t ≡ false
+no_dollar t e = no_dollar_where_none nothing t (all_plain (names_in t) e)
 
-pub name_fires : (a b n l : Option ErrorItem) (r : CommandFault) → first_of (a ∷ b ∷ []) ≡ None → Refuses n r → Refuses (first_of (a ∷ b ∷ n ∷ l ∷ [])) r
-name_fires a b n l r e h = subst (λ o. Refuses o r) (sym (grouped a b n l)) (refuses_later (first_of (a ∷ b ∷ [])) (option_or n l) r e (refuses_first n l r h))
+no_fault : (o : Option Tree) → id_kind_refusal o ≡ None → empty_id_refusal o ≡ None → option_and_then id_fault o ≡ None
+no_fault None k e = refl
+no_fault (Some null) k e = refl
+no_fault (Some (boolean b)) k e = refl
+no_fault (Some (number n)) k e = refl
+no_fault (Some (text [])) k e = absurd (Prim.cc e)
+no_fault (Some (text (x ∷ s))) k e = refl
+no_fault (Some (date d)) k e = refl
+no_fault (Some (list ts)) k e = absurd (Prim.cc k)
+no_fault (Some (object ms)) k e = absurd (Prim.cc k)
 
-id_is : (o : Option Tree) → first_of (id_kind_refusal o ∷ empty_id_refusal o ∷ []) ≡ None → MatchOption o ⊥ IsId
-id_is None e = absurd (Prim.cc e)
-id_is (Some null) e = refl
-id_is (Some (boolean b)) e = refl
-id_is (Some (number n)) e = refl
-id_is (Some (text [])) e = absurd (Prim.cc e)
-id_is (Some (text (x ∷ t))) e = refl
-id_is (Some (date d)) e = refl
-id_is (Some (list ts)) e = absurd (Prim.cc e)
-id_is (Some (object ms)) e = absurd (Prim.cc e)
+pub replaces : (t : Tree) → is_object t ≡ true → replacing_refusal t ≡ None → IsReplacement t
+replaces t o h =
+    let a = neither_fires (id_kind_refusal (id_in t)) (first_of (empty_id_refusal (id_in t) ∷ name_refusal (first_bad_name t) ∷ [])) h in
+    let b = neither_fires (empty_id_refusal (id_in t)) (first_of (name_refusal (first_bad_name t) ∷ [])) a.1 in
+    let c = neither_fires (name_refusal (first_bad_name t)) None b.1 in
+    record { object = o; names = no_dollar t (none_mapped _ (first_bad_name t) c.0); id = no_fault (id_in t) a.0 b.0 }
 
-storable : (l : Option ErrorItem) (t : Tree) (r : Result (Unit {0}) CommandFault) → IsDocument t → Passes l (λ _. broken t ≡ None) r → Passes l (λ _. IsStorable t) r
-storable l t (Ok u) d h = (h.0, record { document = d; limits = h.1 })
-storable l t (Err fault) d h = h
+-- ---- documents
 
-pub sizes_decide : (n l : Option ErrorItem) (t : Tree) (r : Result (Unit {0}) CommandFault) → first_of (id_kind_refusal (id_in t) ∷ empty_id_refusal (id_in t) ∷ []) ≡ None → n ≡ None → has_dollar_name t ≡ false → Passes l (λ _. broken t ≡ None) r
-    → Passes (first_of (id_kind_refusal (id_in t) ∷ empty_id_refusal (id_in t) ∷ n ∷ l ∷ [])) (λ _. IsStorable t) r
-sizes_decide n l t r e m names h =
-    subst (λ o. Passes o (λ _. IsStorable t) r)
-    (sym (grouped (id_kind_refusal (id_in t)) (empty_id_refusal (id_in t)) n l ∙ goes_on (first_of (id_kind_refusal (id_in t) ∷ empty_id_refusal (id_in t) ∷ [])) (option_or n l) e ∙ goes_on n l m))
-    (storable l t r (record { id = id_is (id_in t) e; names = names }) h)
+pub fronted : (id : Tree) (ms : Members) → IsId id → has_dollar_name id ≡ false → has_dollar_name (object ms) ≡ false → IsDocument (with_id id (object ms))
+fronted id ms h plain names = record { id = h; names = λ i. plain i || names i }
+
+-- an object without a wrong id, under an id in front if it has none
+under_either : (ms : Members) (o : Option Tree) → id_in (object ms) ≡ o → option_and_then id_fault o ≡ None → has_dollar_name (object ms) ≡ false → IsDocument (under_own stand_in (object ms) o)
+under_either ms None e h names = fronted stand_in ms refl refl names
+under_either ms (Some id) e h names = record { id = subst (λ (o : Option Tree). MatchOption o ⊥ IsId) (sym e) h; names = names }
+
+document : (t : Tree) → IsReplacement t → IsDocument (under stand_in t)
+document (object ms) r = under_either ms (id_in (object ms)) refl r.id r.names
+document null r = absurd (Prim.cc r.object)
+document (boolean b) r = absurd (Prim.cc r.object)
+document (number n) r = absurd (Prim.cc r.object)
+document (text s) r = absurd (Prim.cc r.object)
+document (date d) r = absurd (Prim.cc r.object)
+document (list ts) r = absurd (Prim.cc r.object)
+
+pub insertable : (t : Tree) → is_object t ≡ true → document_refusal t ≡ None → IsInsertable t
+insertable t o h =
+    let a = neither_fires (replacing_refusal t) (first_of (limit_refusal (broken (under stand_in t)) ∷ [])) h in
+    let b = neither_fires (limit_refusal (broken (under stand_in t))) None a.1 in
+    record { document = document t (replaces t o a.0); limits = none_mapped _ (broken (under stand_in t)) b.0 }
+
+each_insertable : (ts : List Tree) → list_all is_object ts ≡ true → first_by document_refusal ts ≡ None → AllByRecursion IsInsertable ts
+each_insertable [] o h = tt
+each_insertable (t ∷ ts) o h =
+    let a = and_parts (is_object t) (list_all is_object ts) o in
+    let b = neither_fires (document_refusal t) (first_by document_refusal ts) h in
+    (insertable t a.0 b.0, each_insertable ts a.1 b.1)
+
+pub all_insertable : (v : Tree) → are_objects v ≡ true → first_by document_refusal (elements_in v) ≡ None → AllByRecursion IsInsertable (elements_in v)
+all_insertable (list ts) o h = each_insertable (list_of_elements ts) (and_parts (not (length (list_of_elements ts) == 0)) (list_all is_object (list_of_elements ts)) o).1 h
+all_insertable null o h = absurd (Prim.cc o)
+all_insertable (boolean b) o h = absurd (Prim.cc o)
+all_insertable (number n) o h = absurd (Prim.cc o)
+all_insertable (text s) o h = absurd (Prim.cc o)
+all_insertable (date d) o h = absurd (Prim.cc o)
+all_insertable (object ms) o h = absurd (Prim.cc o)

@@ -7,7 +7,7 @@ use Rattle.json_tree.specs.Members.{member_at}
 use Rattle.reply_env.specs.Messages.{bad_field, bad_option, command_limit}
 use Rattle.reply_env.specs.declared.reply.ErrorItem.{ErrorItem}
 use Rattle.cmd_grammar.specs.First.{first_of, first_by}
-use Rattle.cmd_grammar.specs.Parts.{sort_of, skip_of, page_text}
+use Rattle.cmd_grammar.specs.Parts.{sort_of, skip_of, page_text, documents_of}
 use Rattle.cmd_grammar.specs.Rows.{Field, Row, fits}
 
 -- an option that the command doesn't have, or of a wrong kind
@@ -47,14 +47,21 @@ skip_refusal t = if not (is_sorted t) && not (skip_of t == 0) then Some (bad_opt
 abbrev pub page_refusal : Tree → Option ErrorItem
 page_refusal t = if is_sorted t && is_some (page_text t) then Some (bad_option (codes "pageState")) else None
 
--- more are skipped than may be
-abbrev pub many_skipped : Tree → Option ErrorItem
-many_skipped t = if nat_le (skip_of t) 480 then None else Some (command_limit (codes "skip") 480 (skip_of t))
-
--- the sort has more paths than it may have
-abbrev pub many_paths : Tree → Option ErrorItem
-many_paths t = if nat_le (length (sort_of t)) 8 then None else Some (command_limit (codes "sort") 8 (length (sort_of t)))
-
 -- in this order
 abbrev pub paging_refusal : Tree → Option ErrorItem
-paging_refusal t = first_of (skip_refusal t ∷ page_refusal t ∷ many_skipped t ∷ many_paths t ∷ [])
+paging_refusal t = first_of (skip_refusal t ∷ page_refusal t ∷ [])
+
+-- ---- limits
+
+-- so many are more than may be
+abbrev pub at_most : List ℕ → ℕ → ℕ → Option ErrorItem
+at_most field bound found = if nat_le found bound then None else Some (command_limit field bound found)
+
+-- the documents that are to be inserted, those that are skipped, and the paths of the sort, in this order
+abbrev pub limits_refusal : Tree → Option ErrorItem
+limits_refusal t =
+    first_of
+    (at_most (codes "documents") 100 (length (documents_of t))
+    ∷ at_most (codes "skip") 480 (skip_of t)
+    ∷ at_most (codes "sort") 8 (length (sort_of t))
+    ∷ [])

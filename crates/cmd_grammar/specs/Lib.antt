@@ -4,6 +4,7 @@ pub mod Commands
 pub mod Documents
 pub mod Fields
 pub mod First
+pub mod Ids
 pub mod Judged
 pub mod Names
 pub mod Parts

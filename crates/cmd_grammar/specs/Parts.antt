@@ -1,6 +1,7 @@
 -- What a command's value holds: its members, its options, and what they spell.
-use Rattle.std.specs.Prelude.{◌≡◌, ◌<◌, ◌^◌, ◌/◌, ◌%◌, ◌==◌, nat_lt, ℕ, pos, ◌&&◌, List, Option, Some, None, ⊤, codes, unwrap_or, option_and_then, if◌then◌else◌}
-use Rattle.json_tree.specs.Tree.{Tree, null, number, text, object, no_members, list_of_members}
+use Rattle.std.specs.Prelude.{◌≡◌, ◌<◌, ◌^◌, ◌/◌, ◌%◌, ◌==◌, nat_lt, ℕ, pos, Bool, false, ◌&&◌, List, [], Option, Some, None, ⊤, codes, unwrap_or, option_map, option_and_then, if◌then◌else◌}
+use Rattle.std.specs.Str.{bytes_eq}
+use Rattle.json_tree.specs.Tree.{Tree, null, boolean, number, text, list, object, no_members, list_of_elements, list_of_members}
 use Rattle.json_tree.specs.Members.{member_at}
 use Rattle.json_tree.specs.Id.{IsId, IsInRange}
 use Rattle.filter_tree.specs.Filters.{FilterTree}
@@ -26,18 +27,39 @@ option_in name t = option_and_then (member_in name) (member_in (codes "options")
 abbrev pub part_in : List ℕ → Tree → Tree
 part_in name t = unwrap_or (member_in name t) (object no_members)
 
+-- an absent member is null
+abbrev pub value_in : List ℕ → Tree → Tree
+value_in name t = unwrap_or (member_in name t) null
+
 -- a whole number under 2^31, from its units of 10^-18
 abbrev pub whole_in : Tree → Option ℕ
 whole_in (number (pos n)) = if (n % 10 ^ 18 == 0) && nat_lt (n / 10 ^ 18) (2 ^ 31) then Some (n / 10 ^ 18) else None
 whole_in t = None
 
--- an absent number is 0
-abbrev pub number_in : List ℕ → Tree → ℕ
-number_in name t = unwrap_or (option_and_then whole_in (option_in name t)) 0
+abbrev pub boolean_in : Tree → Option Bool
+boolean_in (boolean b) = Some b
+boolean_in t = None
 
 abbrev pub text_in : Tree → Option (List ℕ)
 text_in (text s) = Some s
 text_in t = None
+
+abbrev pub elements_in : Tree → List Tree
+elements_in (list ts) = list_of_elements ts
+elements_in t = []
+
+-- it is this text
+abbrev pub is_text : List ℕ → Tree → Bool
+is_text s (text t) = bytes_eq t s
+is_text s t = false
+
+-- an absent number is 0
+abbrev pub number_in : List ℕ → Tree → ℕ
+number_in name t = unwrap_or (option_and_then whole_in (option_in name t)) 0
+
+-- an absent truth value is false
+abbrev pub flag_in : List ℕ → Tree → Bool
+flag_in name t = unwrap_or (option_and_then boolean_in (option_in name t)) false
 
 -- ---- what they spell
 
@@ -54,7 +76,13 @@ abbrev pub shows_of : Tree → Shows
 shows_of t = projection_in (part_in (codes "projection") t)
 
 abbrev pub document_of : Tree → Tree
-document_of t = unwrap_or (member_in (codes "document") t) null
+document_of t = value_in (codes "document") t
+
+abbrev pub documents_of : Tree → List Tree
+documents_of t = elements_in (value_in (codes "documents") t)
+
+abbrev pub replacement_of : Tree → Tree
+replacement_of t = value_in (codes "replacement") t
 
 abbrev pub limit_of : Tree → ℕ
 limit_of t = number_in (codes "limit") t
@@ -62,9 +90,26 @@ limit_of t = number_in (codes "limit") t
 abbrev pub skip_of : Tree → ℕ
 skip_of t = number_in (codes "skip") t
 
+abbrev pub ordered_of : Tree → Bool
+ordered_of t = flag_in (codes "ordered") t
+
+abbrev pub upsert_of : Tree → Bool
+upsert_of t = flag_in (codes "upsert") t
+
+-- `returnDocument` is "after"; absent, it is "before"
+abbrev pub after_of : Tree → Bool
+after_of t = unwrap_or (option_map (is_text (codes "after")) (option_in (codes "returnDocument") t)) false
+
 -- the text of a page state; null is none
 abbrev pub page_text : Tree → Option (List ℕ)
 page_text t = option_and_then text_in (option_in (codes "pageState") t)
+
+-- the name of a collection, where it is a text
+abbrev pub name_text : Tree → Option (List ℕ)
+name_text t = text_in (value_in (codes "name") t)
+
+abbrev pub name_of : Tree → List ℕ
+name_of t = unwrap_or (name_text t) []
 
 -- ---- page states
 

@@ -17,24 +17,36 @@ use Rattle.view_sort.specs.declared.fault.ViewFault.TheVariants as view_faults
 use Rattle.reply_env.specs.Messages.{no_command, no_keyspace, bad_collection_name, bad_field, bad_filter, many_operands, no_filter_operator, no_update_operator, bad_update_operand, update_conflict, id_unchangeable, wrong_update_target, number_out_of_range, broken_limit, bad_projection, bad_sort, bad_page_state, out_of_memory}
 use Rattle.reply_env.specs.declared.reply.ErrorItem.{ErrorItem}
 use Rattle.reply_env.specs.declared.request.Place.{Place}
-use Rattle.cmd_grammar.specs.First.{first_of}
-use Rattle.cmd_grammar.specs.Names.{command_named, command_text}
-use Rattle.cmd_grammar.specs.Parts.{member_in, page_text, IsNoPage}
+use Rattle.cmd_grammar.specs.First.{first_of, first_by}
+use Rattle.cmd_grammar.specs.Names.{command_named, command_text, is_on_documents}
+use Rattle.cmd_grammar.specs.Parts.{member_in, page_text, name_text, documents_of, IsNoPage}
 use Rattle.cmd_grammar.specs.Rows.{row}
-use Rattle.cmd_grammar.specs.Fields.{members_refusal, paging_refusal}
-use Rattle.cmd_grammar.specs.Documents.{document_refusal}
+use Rattle.cmd_grammar.specs.Fields.{members_refusal, paging_refusal, limits_refusal}
+use Rattle.cmd_grammar.specs.Documents.{document_refusal, replacing_refusal}
 use Rattle.cmd_grammar.specs.declared.name.Name.{Name}
+use Rattle.cmd_grammar.specs.declared.name.Name.TheVariants.{CreateCollection, DeleteCollection}
 
 -- ---- the command and its value
 
--- a command on documents stands under the path of a collection: the body is an object whose one member has its name
+-- a command on documents stands under the path of a collection, one on collections under that of the keyspace alone
+abbrev pub at_level : Option (List ℕ) → Name → Option Name
+at_level (Some collection) name = if is_on_documents name then Some name else None
+at_level None name = if is_on_documents name then None else Some name
+
+-- the body is an object whose one member has the name of a command of the path's level
 abbrev pub command_at : Option (List ℕ) → Tree → Option (Name × Tree)
-command_at (Some collection) (object (member name t no_members)) = option_map (λ command. (command, t)) (command_named name)
+command_at collection (object (member name t no_members)) = option_map (λ command. (command, t)) (option_and_then (at_level collection) (command_named name))
 command_at collection t = None
 
 -- the text of its page state, where it has one
 abbrev pub page_at : Place → Tree → Option (List ℕ)
 page_at place value = option_and_then (λ command. page_text command.1) (command_at place.collection value)
+
+-- the text that names the collection to be made or deleted, or else the path's collection
+abbrev pub collection_named : Option (List ℕ) → Name × Tree → Option (List ℕ)
+collection_named collection (CreateCollection, t) = name_text t
+collection_named collection (DeleteCollection, t) = name_text t
+collection_named collection (name, t) = collection
 
 -- ---- the tests
 
@@ -46,7 +58,7 @@ no_command_refusal (Some command) = None
 abbrev pub keyspace_refusal : List ℕ → List ℕ → Option ErrorItem
 keyspace_refusal keyspace name = if bytes_eq name keyspace then None else Some (no_keyspace name)
 
--- the path's collection can't be one
+-- no collection can have the name
 abbrev pub collection_refusal : Option (List ℕ) → Option ErrorItem
 collection_refusal None = None
 collection_refusal (Some name) = if is_collection_name name then None else Some (bad_collection_name name)
@@ -99,13 +111,25 @@ sort_refusal t = option_map view_error (option_and_then sort_fault (member_in (c
 abbrev pub inserted_refusal : Tree → Option ErrorItem
 inserted_refusal t = option_and_then document_refusal (member_in (codes "document") t)
 
+-- the first of the documents that may not be stored
+abbrev pub many_inserted_refusal : Tree → Option ErrorItem
+many_inserted_refusal t = first_by document_refusal (documents_of t)
+
+-- the replacement may not stand for a document
+abbrev pub replacement_refusal : Tree → Option ErrorItem
+replacement_refusal t = option_and_then replacing_refusal (member_in (codes "replacement") t)
+
+-- a command has one of these at most
+abbrev pub contents_refusal : Tree → Option ErrorItem
+contents_refusal t = first_of (inserted_refusal t ∷ many_inserted_refusal t ∷ replacement_refusal t ∷ [])
+
 -- the tests of what the members spell, in their order
 abbrev pub parts_refusal : Tree → Option ErrorItem
-parts_refusal t = first_of (filter_refusal t ∷ update_refusal t ∷ projection_refusal t ∷ sort_refusal t ∷ inserted_refusal t ∷ [])
+parts_refusal t = first_of (filter_refusal t ∷ update_refusal t ∷ projection_refusal t ∷ sort_refusal t ∷ contents_refusal t ∷ [])
 
 -- the tests of a command and its value, in their order
 abbrev pub command_refusal : Name × Tree → Option ErrorItem
-command_refusal command = first_of (fields_refusal command ∷ paging_refusal command.1 ∷ parts_refusal command.1 ∷ [])
+command_refusal command = first_of (fields_refusal command ∷ paging_refusal command.1 ∷ limits_refusal command.1 ∷ parts_refusal command.1 ∷ [])
 
 -- the tests of a request, in their order, but for that of the page state
 abbrev pub refused : List ℕ → Place → Tree → Option ErrorItem
@@ -113,12 +137,12 @@ refused keyspace place value =
     first_of
     (no_command_refusal (command_at place.collection value)
     ∷ keyspace_refusal keyspace place.keyspace
-    ∷ collection_refusal place.collection
+    ∷ collection_refusal (option_and_then (collection_named place.collection) (command_at place.collection value))
     ∷ option_and_then command_refusal (command_at place.collection value)
     ∷ [])
 
 -- This is the first refusal. That the text of a page state spells none is tested last: a command with a page state has no
--- document.
+-- document and no replacement.
 abbrev pub IsFirst : Option ErrorItem → Option (List ℕ) → ErrorItem → Type 0
 IsFirst refusal page error = (refusal ≡ Some error) ⊎ ((refusal ≡ None) × IsNoPage page × (error ≡ bad_page_state))
 

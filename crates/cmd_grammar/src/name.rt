@@ -1,13 +1,15 @@
 // The names of commands.
-ghost use Rattle.std.specs.Prelude.{◌≡◌, ◌<◌, slice_get, Some};
-ghost use Rattle.cmd_grammar.specs.Names.{command_named, command_text};
+ghost use Rattle.std.specs.Prelude.{◌≡◌, ◌<◌, slice_get, Some, option_map};
+ghost use Rattle.cmd_grammar.specs.Names.{command_named, command_text, is_on_documents};
+ghost use Rattle.cmd_grammar.specs.Judged.{content_name};
 
 use name_tables::commands;
 
-/// The commands that are built.
+/// The commands on the documents of a collection, then those on collections.
 #[derive(Clone, Copy)]
 pub(crate) enum Name {
     InsertOne,
+    InsertMany,
     FindOne,
     Find,
     CountDocuments,
@@ -15,28 +17,34 @@ pub(crate) enum Name {
     UpdateMany,
     DeleteOne,
     DeleteMany,
+    FindOneAndUpdate,
+    FindOneAndReplace,
+    FindOneAndDelete,
+    CreateCollection,
+    FindCollections,
+    DeleteCollection,
 }
 
-// In the order of the table of names; those that aren't built have none.
-const IN_ORDER: [Option<Name>; 15] = [
-    Some(Name::InsertOne),
-    None,
-    Some(Name::FindOne),
-    Some(Name::Find),
-    Some(Name::CountDocuments),
-    Some(Name::UpdateOne),
-    Some(Name::UpdateMany),
-    Some(Name::DeleteOne),
-    Some(Name::DeleteMany),
-    None,
-    None,
-    None,
-    None,
-    None,
-    None,
+// In the order of the table of names.
+const IN_ORDER: [Name; 15] = [
+    Name::InsertOne,
+    Name::InsertMany,
+    Name::FindOne,
+    Name::Find,
+    Name::CountDocuments,
+    Name::UpdateOne,
+    Name::UpdateMany,
+    Name::DeleteOne,
+    Name::DeleteMany,
+    Name::FindOneAndUpdate,
+    Name::FindOneAndReplace,
+    Name::FindOneAndDelete,
+    Name::CreateCollection,
+    Name::FindCollections,
+    Name::DeleteCollection,
 ];
 
-fn in_row(row: usize) -> Option<Name>
+fn in_row(row: usize) -> Name
     requires { row < 15 }
     ensures { slice_get IN_ORDER row ≡ Some result }
 {
@@ -48,7 +56,7 @@ pub(crate) fn command_named(name: &str) -> Option<Name>
     ensures { result ≡ command_named name.now }
 {
     match commands().find(name) {
-        Some(row) => in_row(row),
+        Some(row) => Some(in_row(row)),
         None => None,
     }
 }
@@ -60,6 +68,7 @@ impl Name {
     {
         match self {
             Name::InsertOne => "insertOne",
+            Name::InsertMany => "insertMany",
             Name::FindOne => "findOne",
             Name::Find => "find",
             Name::CountDocuments => "countDocuments",
@@ -67,6 +76,35 @@ impl Name {
             Name::UpdateMany => "updateMany",
             Name::DeleteOne => "deleteOne",
             Name::DeleteMany => "deleteMany",
+            Name::FindOneAndUpdate => "findOneAndUpdate",
+            Name::FindOneAndReplace => "findOneAndReplace",
+            Name::FindOneAndDelete => "findOneAndDelete",
+            Name::CreateCollection => "createCollection",
+            Name::FindCollections => "findCollections",
+            Name::DeleteCollection => "deleteCollection",
+        }
+    }
+
+    /// Whether it is on the documents of a collection, and not on collections.
+    pub(crate) fn is_on_documents(self) -> bool
+        ensures { result ≡ is_on_documents self }
+    {
+        !matches!(
+            self,
+            Name::CreateCollection | Name::FindCollections | Name::DeleteCollection
+        )
+    }
+
+    /// The member that it takes out of its value as it is.
+    pub(crate) fn content(self) -> Option<&'static str>
+        ensures { option_map (λ s. s.now) result ≡ content_name self }
+    {
+        match self {
+            Name::InsertOne => Some("document"),
+            Name::InsertMany => Some("documents"),
+            Name::FindOneAndReplace => Some("replacement"),
+            Name::CreateCollection | Name::DeleteCollection => Some("name"),
+            _ => None,
         }
     }
 }

@@ -1,8 +1,8 @@
-// How a command's documents are paged: its sort, its skip and its page state together.
-ghost use Rattle.std.specs.Prelude.{◌≡◌, ◌≤◌, length, option_map};
+// How a command's documents are paged, and how many of each thing it may have.
+ghost use Rattle.std.specs.Prelude.{◌≡◌, ⊤, length, option_map};
 ghost use Rattle.json_tree.specs.View.{tree};
-ghost use Rattle.cmd_grammar.specs.Parts.{sort_of, skip_of, page_text};
-ghost use Rattle.cmd_grammar.specs.Fields.{paging_refusal};
+ghost use Rattle.cmd_grammar.specs.Parts.{sort_of, documents_of, page_text};
+ghost use Rattle.cmd_grammar.specs.Fields.{paging_refusal, at_most, limits_refusal};
 ghost use Rattle.cmd_grammar.specs.Answers.{Passes};
 
 use crate::fault::{CommandFault, refuse};
@@ -12,9 +12,11 @@ use json_tree::{Text, Value};
 use reply_env::{bad_option, command_limit};
 use std::alloc::Global;
 
+const MOST_DOCUMENTS: u64 = 100;
+
 const MOST_SKIPPED: u64 = 480;
 
-const MOST_PATHS: usize = 8;
+const MOST_PATHS: u64 = 8;
 
 // How many paths the sort has, whether they can be read or not.
 fn sort_len(command: &Value) -> usize
@@ -22,6 +24,16 @@ fn sort_len(command: &Value) -> usize
 {
     match member(command, "sort") {
         Some(Value::Object(paths)) => paths.len(),
+        _ => 0,
+    }
+}
+
+// How many documents are to be inserted together.
+fn documents_len(command: &Value) -> usize
+    ensures { result ≡ length (documents_of (tree command.now)) }
+{
+    match member(command, "documents") {
+        Some(Value::List(documents)) => documents.len(),
         _ => 0,
     }
 }
@@ -36,23 +48,39 @@ pub(crate) fn page_text(command: &Value) -> Option<&Text>
     }
 }
 
-/// The tests of the skip and the page state with the sort, then their limits.
+/// The tests of the skip and of the page state with the sort.
 pub(crate) fn check_paging(alloc: Global, command: &Value) -> Result<(), CommandFault>
-    ensures { Passes (paging_refusal (tree command.now)) (λ _. skip_of (tree command.now) ≤ 480) result }
+    ensures { Passes (paging_refusal (tree command.now)) (λ _. ⊤) result }
 {
     let paths = sort_len(command);
-    let skip = number_in(command, "skip");
-    if paths == 0 && skip != 0 {
+    if paths == 0 && number_in(command, "skip") != 0 {
         return Err(refuse(bad_option(alloc, "skip")));
     }
     if paths != 0 && page_text(command).is_some() {
         return Err(refuse(bad_option(alloc, "pageState")));
     }
-    if skip > MOST_SKIPPED {
-        return Err(refuse(command_limit(alloc, "skip", MOST_SKIPPED, skip)));
-    }
-    if paths > MOST_PATHS {
-        return Err(refuse(command_limit(alloc, "sort", MOST_PATHS as u64, paths as u64)));
+    Ok(())
+}
+
+fn check_most(alloc: Global, field: &str, bound: u64, found: u64) -> Result<(), CommandFault>
+    ensures { Passes (at_most field.now bound found) (λ _. ⊤) result }
+{
+    if found > bound {
+        return Err(refuse(command_limit(alloc, field, bound, found)));
     }
     Ok(())
+}
+
+/// The limits of a command.
+pub(crate) fn check_limits(alloc: Global, command: &Value) -> Result<(), CommandFault>
+    ensures { Passes (limits_refusal (tree command.now)) (λ _. ⊤) result }
+{
+    check_most(
+        alloc,
+        "documents",
+        MOST_DOCUMENTS,
+        documents_len(command) as u64,
+    )?;
+    check_most(alloc, "skip", MOST_SKIPPED, number_in(command, "skip"))?;
+    check_most(alloc, "sort", MOST_PATHS, sort_len(command) as u64)
 }

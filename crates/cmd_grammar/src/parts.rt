@@ -1,20 +1,18 @@
 // What the members of a command's value spell.
-ghost use Rattle.std.specs.Prelude.{◌≡◌, codes, option_map, IfOk, IfSome};
+ghost use Rattle.std.specs.Prelude.{◌≡◌, IfOk};
 ghost use Rattle.json_tree.specs.View.{tree};
 ghost use Rattle.json_tree.specs.Writable.{IsWritable};
 ghost use Rattle.filter_tree.specs.View.{filter_tree};
-ghost use Rattle.cmd_grammar.specs.Commands.{command_tree, IsAskableFilter, IsStorable};
-ghost use Rattle.cmd_grammar.specs.Parts.{member_in, page_text};
-ghost use Rattle.cmd_grammar.specs.Refused.{inserted_refusal, parts_refusal};
-ghost use Rattle.cmd_grammar.specs.Answers.{Passes, PassesAll};
-ghost use Rattle.cmd_grammar.specs.Judged.{listing_refusal, IsListing, AreParts, without_document};
+ghost use Rattle.cmd_grammar.specs.Commands.{IsAskableFilter};
+ghost use Rattle.cmd_grammar.specs.Parts.{page_text};
+ghost use Rattle.cmd_grammar.specs.Refused.{parts_refusal};
+ghost use Rattle.cmd_grammar.specs.Answers.{PassesAll};
+ghost use Rattle.cmd_grammar.specs.Judged.{listing_refusal, choices_of, IsListing, AreParts};
 
-use crate::command::Command;
-use crate::documents::check_document;
+use crate::contents::check_contents;
 use crate::fault::CommandFault;
 use crate::filters::read_filter;
-use crate::members::member;
-use crate::name::Name;
+use crate::members::{flag_in, is_after};
 use crate::numbers::number_in;
 use crate::updates::read_updates;
 use crate::views::{read_page, read_projection, read_sort};
@@ -34,27 +32,40 @@ pub(crate) struct Listing {
     pub(crate) page: Option<PageState>,
 }
 
-/// What a command's value spells beside a document.
+/// The options that choose one of two.
+#[derive(Clone, Copy)]
+pub(crate) struct Choices {
+    /// The first document whose id is taken ends an insertion of many.
+    pub(crate) ordered: bool,
+    /// Where no document matches, one is inserted.
+    pub(crate) upsert: bool,
+    /// A document that is changed is shown as it is left.
+    pub(crate) after: bool,
+}
+
+/// What a command's value spells beside its content.
 #[derive(Drop)]
 pub(crate) struct Parts {
     pub(crate) filter: Filter,
     pub(crate) updates: Updates,
     pub(crate) listing: Listing,
+    pub(crate) choices: Choices,
 }
 
-// The test of the member `document`.
-fn check_inserted(alloc: Global, command: &Value) -> Result<(), CommandFault>
-    ensures { Passes (inserted_refusal (tree command.now)) (λ _. IfSome (member_in (codes "document") (tree command.now)) IsStorable) result }
+// The options that choose one of two.
+fn choices_in(command: &Value) -> Choices
+    ensures { result ≡ choices_of (tree command.now) }
 {
-    match member(command, "document") {
-        Some(document) => check_document(alloc, document),
-        None => Ok(()),
+    Choices {
+        ordered: flag_in(command, "ordered"),
+        upsert: flag_in(command, "upsert"),
+        after: is_after(command),
     }
 }
 
-// What a command's value tells of what is shown. Its document is tested behind the sort.
+// What a command's value tells of what is shown. Its content is tested behind the sort.
 fn read_listing(alloc: Global, command: &Value) -> Result<Listing, CommandFault>
-    ensures { PassesAll (listing_refusal (tree command.now)) (page_text (tree command.now)) (λ l. IsListing (tree command.now) l × IfSome (member_in (codes "document") (tree command.now)) IsStorable) result }
+    ensures { PassesAll (listing_refusal (tree command.now)) (page_text (tree command.now)) (λ l. IsListing (tree command.now) l) result }
 {
     let projection = match read_projection(alloc, command) {
         Ok(projection) => projection,
@@ -64,7 +75,7 @@ fn read_listing(alloc: Global, command: &Value) -> Result<Listing, CommandFault>
         Ok(sort) => sort,
         Err(fault) => return Err(fault),
     };
-    match check_inserted(alloc, command) {
+    match check_contents(alloc, command) {
         Ok(()) => {}
         Err(fault) => return Err(fault),
     }
@@ -82,9 +93,9 @@ fn read_listing(alloc: Global, command: &Value) -> Result<Listing, CommandFault>
     }
 }
 
-/// The parts of a command's value, read in the order of their tests; its document is tested by the way.
+/// The parts of a command's value, read in the order of their tests; its content is tested by the way.
 pub(crate) fn read_parts(alloc: Global, command: &Value) -> Result<Parts, CommandFault>
-    ensures answers { PassesAll (parts_refusal (tree command.now)) (page_text (tree command.now)) (λ p. AreParts (tree command.now) p × IfSome (member_in (codes "document") (tree command.now)) IsStorable) result }
+    ensures answers { PassesAll (parts_refusal (tree command.now)) (page_text (tree command.now)) (λ p. AreParts (tree command.now) p) result }
     ensures filter { IsWritable (tree command.now) → IfOk result (λ p. IsAskableFilter (filter_tree p.filter)) }
 {
     let filter = match read_filter(alloc, command) {
@@ -95,55 +106,14 @@ pub(crate) fn read_parts(alloc: Global, command: &Value) -> Result<Parts, Comman
         Ok(updates) => updates,
         Err(fault) => return Err(fault),
     };
+    let choices = choices_in(command);
     match read_listing(alloc, command) {
         Ok(listing) => Ok(Parts {
             filter,
             updates,
             listing,
+            choices,
         }),
         Err(fault) => Err(fault),
-    }
-}
-
-/// The command that the parts make, if it takes no document.
-pub(crate) fn without_document(name: Name, parts: Parts) -> Option<Command>
-    ensures { option_map command_tree result ≡ without_document name parts }
-{
-    let Parts {
-        filter,
-        updates,
-        listing,
-    } = parts;
-    match name {
-        Name::InsertOne => None,
-        Name::FindOne => Some(Command::FindOne {
-            filter,
-            sort: listing.sort,
-            projection: listing.projection,
-        }),
-        Name::Find => Some(Command::Find {
-            filter,
-            sort: listing.sort,
-            projection: listing.projection,
-            limit: listing.limit,
-            skip: listing.skip,
-            page: listing.page,
-        }),
-        Name::CountDocuments => Some(Command::CountDocuments { filter }),
-        Name::UpdateOne => Some(Command::UpdateOne {
-            filter,
-            updates,
-            sort: listing.sort,
-        }),
-        Name::UpdateMany => Some(Command::UpdateMany {
-            filter,
-            updates,
-            page: listing.page,
-        }),
-        Name::DeleteOne => Some(Command::DeleteOne {
-            filter,
-            sort: listing.sort,
-        }),
-        Name::DeleteMany => Some(Command::DeleteMany { filter }),
     }
 }

@@ -1,5 +1,5 @@
 // The reader of commands.
-ghost use Rattle.std.specs.Prelude.{◌≡◌, ◌≢◌, ⊤, option_map, Some, None, IfOk, OnOk};
+ghost use Rattle.std.specs.Prelude.{◌≡◌, ◌≢◌, ⊤, option_map, Some, IfOk};
 ghost use Rattle.json_text.specs.declared.read.TextFault.{TextFault};
 ghost use Rattle.reply_env.specs.Messages as errors;
 ghost use Rattle.cmd_grammar.specs.declared.fault.CommandFault.{CommandFault};
@@ -12,29 +12,27 @@ ghost use Rattle.cmd_grammar.specs.Asked.{IsPlaced};
 ghost use Rattle.cmd_grammar.specs.Commands.{command_tree, IsAskable, IsAskableFilter};
 ghost use Rattle.cmd_grammar.specs.Answers.{Refuses, Passes, PassesAll, Answers};
 ghost use Rattle.cmd_grammar.specs.Requests.{IsReadAs};
-ghost use Rattle.cmd_grammar.specs.Judged.{named_refusal, AreParts, IsSound, IsJudged, IsInsertion, IsInsertionOf};
+ghost use Rattle.cmd_grammar.specs.Judged.{named_refusal, AreParts, IsJudged};
 
-use crate::checks::check_place;
+use crate::checks::{check_place, named_at};
 use crate::command::Command;
+use crate::contents::{copied_content, taken_content};
 use crate::fault::{CommandFault, refuse};
 use crate::fields::check_fields;
-use crate::members::{member, take_member};
-use crate::name::{Name, command_named};
-use crate::paging::check_paging;
-use crate::parts::{Parts, read_parts, without_document};
+use crate::making::made;
+use crate::name::Name;
+use crate::paging::{check_limits, check_paging};
+use crate::parts::{Parts, read_parts};
 use crate::row::table_row;
 use json_text::{TextFault, read_value};
 use json_tree::Value;
 use reply_env::{Place, Request, bad_field, no_command, unread};
 use std::alloc::Global;
 
-// The command and its value, in an object of one member under the path of a collection.
+// The command and its value, in an object of one member with the name of a command of the path's level.
 fn named<'v>(place: &Place, value: &'v Value) -> Option<(Name, &'v Value)>
     ensures { option_map (λ p. (p.0, tree p.1.now)) result ≡ command_at place.now.collection (tree value.now) }
 {
-    let Some(_) = &place.collection else {
-        return None;
-    };
     let Value::Object(members) = value else {
         return None;
     };
@@ -42,7 +40,7 @@ fn named<'v>(place: &Place, value: &'v Value) -> Option<(Name, &'v Value)>
         return None;
     }
     match members.pair(0) {
-        Some((name, inner)) => match command_named(name.as_str()) {
+        Some((name, inner)) => match named_at(&place.collection, name.as_str()) {
             Some(name) => Some((name, inner)),
             None => None,
         },
@@ -62,7 +60,7 @@ fn check_members(alloc: Global, name: Name, command: &Value) -> Result<(), Comma
 
 // The tests of a command's value; its parts are read by the way.
 fn check_command(alloc: Global, name: Name, command: &Value) -> Result<Parts, CommandFault>
-    ensures answers { PassesAll (command_refusal (name, tree command.now)) (page_text (tree command.now)) (λ p. AreParts (tree command.now) p × IsSound name (tree command.now)) result }
+    ensures answers { PassesAll (command_refusal (name, tree command.now)) (page_text (tree command.now)) (λ p. AreParts (tree command.now) p) result }
     ensures filter { IsWritable (tree command.now) → IfOk result (λ p. IsAskableFilter (filter_tree p.filter)) }
 {
     match check_members(alloc, name, command) {
@@ -70,6 +68,10 @@ fn check_command(alloc: Global, name: Name, command: &Value) -> Result<Parts, Co
         Err(fault) => return Err(fault),
     }
     match check_paging(alloc, command) {
+        Ok(()) => {}
+        Err(fault) => return Err(fault),
+    }
+    match check_limits(alloc, command) {
         Ok(()) => read_parts(alloc, command),
         Err(fault) => Err(fault),
     }
@@ -83,10 +85,10 @@ fn judge_named(
     name: Name,
     command: &Value,
 ) -> Result<Parts, CommandFault>
-    ensures answers { PassesAll (named_refusal keyspace.now place.now (name, tree command.now)) (page_text (tree command.now)) (λ p. AreParts (tree command.now) p × IsSound name (tree command.now)) result }
+    ensures answers { PassesAll (named_refusal keyspace.now place.now (name, tree command.now)) (page_text (tree command.now)) (λ p. AreParts (tree command.now) p) result }
     ensures filter { IsWritable (tree command.now) → IfOk result (λ p. IsAskableFilter (filter_tree p.filter)) }
 {
-    match check_place(alloc, keyspace, place) {
+    match check_place(alloc, keyspace, place, name, command) {
         Ok(()) => check_command(alloc, name, command),
         Err(fault) => Err(fault),
     }
@@ -111,38 +113,8 @@ fn judge(
     }
 }
 
-// The insertion that a body asks for, with a copy of the document.
-fn copied_insertion(alloc: Global, body: &Value) -> Result<Command, CommandFault>
-    requires { IsInsertion (tree body.now) }
-    ensures { Passes None (λ c. IsInsertionOf (tree body.now) (command_tree c)) result }
-{
-    let Some(command) = member(body, "insertOne") else {
-        unreachable!()
-    };
-    let Some(document) = member(command, "document") else {
-        unreachable!()
-    };
-    match document.try_copy(alloc) {
-        Ok(document) => Ok(Command::InsertOne { document }),
-        Err(_) => Err(CommandFault::NoMemory),
-    }
-}
-
-// The insertion that a body asks for, with the document moved out of it.
-fn taken_insertion(body: Value) -> Command
-    requires { IsInsertion (tree body) }
-    ensures { IsInsertionOf (tree body) (command_tree result) }
-{
-    let Some(command) = take_member(body, "insertOne") else {
-        unreachable!()
-    };
-    let Some(document) = take_member(command, "document") else {
-        unreachable!()
-    };
-    Command::InsertOne { document }
-}
-
-/// The command that a body asks for at a place, or the first refusal. A document is copied out of the body.
+/// The command that a body asks for at a place, or the first refusal. Documents and replacements are copied out of the
+/// body.
 pub fn read_command(
     alloc: Global,
     place: &Place,
@@ -151,18 +123,18 @@ pub fn read_command(
 ) -> Result<Command, CommandFault>
     ensures answers { Answers keyspace.now place.now (tree value.now) result }
     ensures ready { IsWritable (tree value.now) → IfOk result (λ c. IsAskable (command_tree c)) }
-    ensures placed { OnOk result (IsPlaced keyspace.now place.now) }
+    ensures placed { IfOk result (λ c. IsPlaced keyspace.now place.now (command_tree c)) }
 {
     match judge(alloc, place, keyspace, value) {
-        Ok((name, parts)) => match without_document(name, parts) {
-            Some(command) => Ok(command),
-            None => copied_insertion(alloc, value),
+        Ok((name, parts)) => match copied_content(alloc, name, value) {
+            Ok(content) => made(alloc, name, parts, content),
+            Err(fault) => Err(fault),
         },
         Err(fault) => Err(fault),
     }
 }
 
-/// The same, with a document moved out of the body.
+/// The same, with documents and replacements moved out of the body.
 pub fn take_command(
     alloc: Global,
     place: &Place,
@@ -171,13 +143,10 @@ pub fn take_command(
 ) -> Result<Command, CommandFault>
     ensures answers { Answers keyspace.now place.now (tree value) result }
     ensures ready { IsWritable (tree value) → IfOk result (λ c. IsAskable (command_tree c)) }
-    ensures placed { OnOk result (IsPlaced keyspace.now place.now) }
+    ensures placed { IfOk result (λ c. IsPlaced keyspace.now place.now (command_tree c)) }
 {
     match judge(alloc, place, keyspace, &value) {
-        Ok((name, parts)) => match without_document(name, parts) {
-            Some(command) => Ok(command),
-            None => Ok(taken_insertion(value)),
-        },
+        Ok((name, parts)) => made(alloc, name, parts, taken_content(name, value)),
         Err(fault) => Err(fault),
     }
 }
@@ -202,7 +171,7 @@ pub fn read_request(
 ) -> Result<Command, CommandFault>
     ensures answers { IsReadAs keyspace.now request.now result }
     ensures ready { IfOk result (λ c. IsAskable (command_tree c)) }
-    ensures placed { OnOk result (IsPlaced keyspace.now request.now.place) }
+    ensures placed { IfOk result (λ c. IsPlaced keyspace.now request.now.place (command_tree c)) }
 {
     match read_value(alloc, request.body.as_slice()) {
         Ok(value) => take_command(alloc, &request.place, keyspace, value),

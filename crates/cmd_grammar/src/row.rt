@@ -1,22 +1,11 @@
 // The table of the commands: which members each may have, and which it has to have.
 ghost use Rattle.std.specs.Prelude.{◌≡◌, map};
 ghost use Rattle.json_tree.specs.View.{tree};
-ghost use Rattle.cmd_grammar.specs.Rows.{row_of, field_of, row, has_kind, fits};
+ghost use Rattle.cmd_grammar.specs.Rows.{row_of, field_of, row, fits};
 
+use crate::kind::Kind;
 use crate::name::Name;
-use crate::numbers::whole_in;
 use json_tree::Value;
-
-/// What a member's value has to be.
-#[derive(Clone, Copy)]
-pub(crate) enum Kind {
-    /// An object.
-    Object,
-    /// A whole number under 2^31, not below zero.
-    Whole,
-    /// A text, or null.
-    TextOrNull,
-}
 
 /// A member that a command may have.
 #[derive(Clone, Copy)]
@@ -39,6 +28,12 @@ const DOCUMENT: Field = Field {
     required: true,
 };
 
+const DOCUMENTS: Field = Field {
+    name: "documents",
+    kind: Kind::Objects,
+    required: true,
+};
+
 const FILTER: Field = Field {
     name: "filter",
     kind: Kind::Object,
@@ -47,6 +42,12 @@ const FILTER: Field = Field {
 
 const UPDATE: Field = Field {
     name: "update",
+    kind: Kind::Object,
+    required: true,
+};
+
+const REPLACEMENT: Field = Field {
+    name: "replacement",
     kind: Kind::Object,
     required: true,
 };
@@ -60,6 +61,18 @@ const SORT: Field = Field {
 const PROJECTION: Field = Field {
     name: "projection",
     kind: Kind::Object,
+    required: false,
+};
+
+const COLLECTION_NAME: Field = Field {
+    name: "name",
+    kind: Kind::Text,
+    required: true,
+};
+
+const ORDERED: Field = Field {
+    name: "ordered",
+    kind: Kind::Boolean,
     required: false,
 };
 
@@ -81,9 +94,26 @@ const PAGE_STATE: Field = Field {
     required: false,
 };
 
+const UPSERT: Field = Field {
+    name: "upsert",
+    kind: Kind::Boolean,
+    required: false,
+};
+
+const RETURN_DOCUMENT: Field = Field {
+    name: "returnDocument",
+    kind: Kind::BeforeOrAfter,
+    required: false,
+};
+
 const INSERT_ONE: Row = Row {
     members: &[DOCUMENT],
     options: None,
+};
+
+const INSERT_MANY: Row = Row {
+    members: &[DOCUMENTS],
+    options: Some(&[ORDERED]),
 };
 
 const FIND_ONE: Row = Row {
@@ -103,12 +133,12 @@ const COUNT_DOCUMENTS: Row = Row {
 
 const UPDATE_ONE: Row = Row {
     members: &[FILTER, UPDATE, SORT],
-    options: Some(&[]),
+    options: Some(&[UPSERT]),
 };
 
 const UPDATE_MANY: Row = Row {
     members: &[FILTER, UPDATE],
-    options: Some(&[PAGE_STATE]),
+    options: Some(&[UPSERT, PAGE_STATE]),
 };
 
 const DELETE_ONE: Row = Row {
@@ -121,12 +151,43 @@ const DELETE_MANY: Row = Row {
     options: None,
 };
 
+const FIND_ONE_AND_UPDATE: Row = Row {
+    members: &[FILTER, UPDATE, SORT, PROJECTION],
+    options: Some(&[UPSERT, RETURN_DOCUMENT]),
+};
+
+const FIND_ONE_AND_REPLACE: Row = Row {
+    members: &[FILTER, REPLACEMENT, SORT, PROJECTION],
+    options: Some(&[UPSERT, RETURN_DOCUMENT]),
+};
+
+const FIND_ONE_AND_DELETE: Row = Row {
+    members: &[FILTER, SORT, PROJECTION],
+    options: None,
+};
+
+const CREATE_COLLECTION: Row = Row {
+    members: &[COLLECTION_NAME],
+    options: None,
+};
+
+const FIND_COLLECTIONS: Row = Row {
+    members: &[],
+    options: None,
+};
+
+const DELETE_COLLECTION: Row = Row {
+    members: &[COLLECTION_NAME],
+    options: None,
+};
+
 /// The row of a command.
 pub(crate) fn table_row(name: Name) -> Row
     ensures { row_of result ≡ row name }
 {
     match name {
         Name::InsertOne => INSERT_ONE,
+        Name::InsertMany => INSERT_MANY,
         Name::FindOne => FIND_ONE,
         Name::Find => FIND,
         Name::CountDocuments => COUNT_DOCUMENTS,
@@ -134,18 +195,12 @@ pub(crate) fn table_row(name: Name) -> Row
         Name::UpdateMany => UPDATE_MANY,
         Name::DeleteOne => DELETE_ONE,
         Name::DeleteMany => DELETE_MANY,
-    }
-}
-
-impl Kind {
-    fn is_of(self, value: &Value) -> bool
-        ensures { result ≡ has_kind self (tree value.now) }
-    {
-        match self {
-            Kind::Object => matches!(value, Value::Object(_)),
-            Kind::Whole => whole_in(value).is_some(),
-            Kind::TextOrNull => matches!(value, Value::Text(_) | Value::Null),
-        }
+        Name::FindOneAndUpdate => FIND_ONE_AND_UPDATE,
+        Name::FindOneAndReplace => FIND_ONE_AND_REPLACE,
+        Name::FindOneAndDelete => FIND_ONE_AND_DELETE,
+        Name::CreateCollection => CREATE_COLLECTION,
+        Name::FindCollections => FIND_COLLECTIONS,
+        Name::DeleteCollection => DELETE_COLLECTION,
     }
 }
 

@@ -1,5 +1,8 @@
 // Requests and what they are read as, or refused by, worked out by hand.
 mod asked;
+mod changing;
+mod collections;
+mod inserting;
 mod many;
 mod paging;
 mod rows;
@@ -13,7 +16,7 @@ use std::alloc::Global;
 use std::test::Fail;
 
 // Bodies of a repeated piece: what stands before it, the piece, how often, what stands behind it, and what they give.
-const LONG_ROWS: [(&str, &str, usize, &str, &str); 11] = [
+const LONG_ROWS: [(&str, &str, usize, &str, &str); 17] = [
     (
         "",
         "[",
@@ -85,6 +88,66 @@ const LONG_ROWS: [(&str, &str, usize, &str, &str); 11] = [
         "findOne",
     ),
     (r#"{"countDocuments":{"#, " ", 1000, "}}", "countDocuments"),
+    (
+        r#"{"insertMany":{"documents":[{}"#,
+        ",{}",
+        100,
+        "]}}",
+        r#"{"errors":[{"message":"Command limit documents is 100, found 101","errorCode":"COMMAND_LIMIT_VIOLATION"}]}"#,
+    ),
+    (
+        r#"{"insertMany":{"documents":[{"_id":[]}"#,
+        r#",{"_id":""}"#,
+        4000,
+        r#"],"options":{"ordered":false}}}"#,
+        r#"{"errors":[{"message":"Command limit documents is 100, found 4001","errorCode":"COMMAND_LIMIT_VIOLATION"}]}"#,
+    ),
+    (
+        r#"{"insertMany":{"documents":[1"#,
+        ",{}",
+        100,
+        "]}}",
+        r#"{"errors":[{"message":"Command field invalid: documents","errorCode":"COMMAND_FIELD_INVALID"}]}"#,
+    ),
+    (
+        r#"{"insertMany":{"documents":[{}"#,
+        ",{}",
+        99,
+        "]}}",
+        "insertMany",
+    ),
+    (
+        r#"{"insertMany":{"documents":[{"_id":1}"#,
+        ",{}",
+        98,
+        r#",{"_id":true,"a b":1}]}}"#,
+        r#"{"errors":[{"message":"Member name is not allowed: a b","errorCode":"SHRED_DOC_KEY_NAME_VIOLATION"}]}"#,
+    ),
+    (
+        r#"{"findOneAndReplace":{"replacement":{"l":[0"#,
+        ",1",
+        1000,
+        "]}}}",
+        "findOneAndReplace",
+    ),
+];
+
+// Documents of 124 texts of 7,998 letters and one of so many: what stands before the list, so many, and what they give. One
+// without `_id` has 45 bytes more.
+const LARGE_ROWS: [(&str, usize, &str); 5] = [
+    (r#"{"l":["#, 7821, "insertOne"),
+    (
+        r#"{"l":["#,
+        7822,
+        r#"{"errors":[{"message":"Document limit 1 is 1000000, found 1000001","errorCode":"SHRED_DOC_LIMIT_VIOLATION"}]}"#,
+    ),
+    (r#"{"_id":1,"l":["#, 7822, "insertOne"),
+    (r#"{"_id":1,"l":["#, 7858, "insertOne"),
+    (
+        r#"{"_id":1,"l":["#,
+        7859,
+        r#"{"errors":[{"message":"Document limit 1 is 1000000, found 1000001","errorCode":"SHRED_DOC_LIMIT_VIOLATION"}]}"#,
+    ),
 ];
 
 fn place_of(alloc: Global, path: &str) -> Result<Place, Fail> {
@@ -118,6 +181,7 @@ fn refused_text(alloc: Global, code: Code, message: Text) -> Result<Vec<u8>, Fai
 fn text_of(alloc: Global, read: Result<Command, CommandFault>) -> Result<Vec<u8>, Fail> {
     match read {
         Ok(Command::InsertOne { .. }) => Ok(b"insertOne".to_vec(alloc)?),
+        Ok(Command::InsertMany { .. }) => Ok(b"insertMany".to_vec(alloc)?),
         Ok(Command::FindOne { .. }) => Ok(b"findOne".to_vec(alloc)?),
         Ok(Command::Find { .. }) => Ok(b"find".to_vec(alloc)?),
         Ok(Command::CountDocuments { .. }) => Ok(b"countDocuments".to_vec(alloc)?),
@@ -125,6 +189,12 @@ fn text_of(alloc: Global, read: Result<Command, CommandFault>) -> Result<Vec<u8>
         Ok(Command::UpdateMany { .. }) => Ok(b"updateMany".to_vec(alloc)?),
         Ok(Command::DeleteOne { .. }) => Ok(b"deleteOne".to_vec(alloc)?),
         Ok(Command::DeleteMany { .. }) => Ok(b"deleteMany".to_vec(alloc)?),
+        Ok(Command::FindOneAndUpdate { .. }) => Ok(b"findOneAndUpdate".to_vec(alloc)?),
+        Ok(Command::FindOneAndReplace { .. }) => Ok(b"findOneAndReplace".to_vec(alloc)?),
+        Ok(Command::FindOneAndDelete { .. }) => Ok(b"findOneAndDelete".to_vec(alloc)?),
+        Ok(Command::CreateCollection { .. }) => Ok(b"createCollection".to_vec(alloc)?),
+        Ok(Command::FindCollections) => Ok(b"findCollections".to_vec(alloc)?),
+        Ok(Command::DeleteCollection { .. }) => Ok(b"deleteCollection".to_vec(alloc)?),
         Err(CommandFault::Refused { code, message }) => refused_text(alloc, code, message),
         Err(CommandFault::NoMemory) => Ok(b"no memory".to_vec(alloc)?),
     }
@@ -165,7 +235,14 @@ fn row_holds(alloc: Global, row: &str) -> Result<bool, Fail> {
 #[test]
 fn requests_are_read_or_refused(rt: HostRuntime) -> Result<(), Fail> {
     let alloc = rt.alloc();
-    for rows in [rows::ROWS, paging::ROWS, many::ROWS] {
+    for rows in [
+        rows::ROWS,
+        paging::ROWS,
+        many::ROWS,
+        inserting::ROWS,
+        changing::ROWS,
+        collections::ROWS,
+    ] {
         for row in rows.split('\n') {
             assert!(rt; row_holds(alloc, row)?, "{row}");
         }
@@ -184,15 +261,35 @@ fn long_requests_are_read_or_refused(rt: HostRuntime) -> Result<(), Fail> {
     Ok(())
 }
 
-// A body that is lent is read as one that is handed over, and stays.
+#[test]
+fn documents_are_measured_under_an_id(rt: HostRuntime) -> Result<(), Fail> {
+    let alloc = rt.alloc();
+    let piece = repeated(alloc, "\"", "x", 7998, "\",")?;
+    for (before, rest, text) in LARGE_ROWS.iter() {
+        let before = format!(in alloc; "{{\"insertOne\":{{\"document\":{before}")?;
+        let behind = repeated(alloc, "\"", "y", *rest, "\"]}}}")?;
+        let body = repeated(alloc, before.as_str(), piece.as_str(), 124, behind.as_str())?;
+        let given = answer(alloc, "ks/c", body.as_str())?;
+        assert!(rt; given.as_slice() == text.as_bytes(), "{text}");
+    }
+    Ok(())
+}
+
+// Bodies that are lent are read as those that are handed over, and stay.
 #[test]
 fn lent_values_stay(rt: HostRuntime) -> Result<(), Fail> {
     let alloc = rt.alloc();
     let place = place_of(alloc, "ks/c")?;
-    let value = read_value(alloc, br#"{"insertOne":{"document":{"_id":"a"}}}"#)?;
-    let first = text_of(alloc, read_command(alloc, &place, "ks", &value))?;
-    let second = text_of(alloc, take_command(alloc, &place, "ks", value))?;
-    assert!(rt; first.as_slice() == b"insertOne".as_slice());
-    assert!(rt; second.as_slice() == b"insertOne".as_slice());
+    let bodies = [
+        r#"{"insertOne":{"document":{"_id":"a"}}}"#,
+        r#"{"insertMany":{"documents":[{},{"_id":"a"}]}}"#,
+        r#"{"findOneAndReplace":{"replacement":{"_id":"a"}}}"#,
+    ];
+    for body in bodies {
+        let value = read_value(alloc, body.as_bytes())?;
+        let first = text_of(alloc, read_command(alloc, &place, "ks", &value))?;
+        let second = text_of(alloc, take_command(alloc, &place, "ks", value))?;
+        assert!(rt; first.as_slice() == second.as_slice());
+    }
     Ok(())
 }

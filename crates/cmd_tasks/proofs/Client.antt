@@ -15,20 +15,21 @@ use Rattle.filter_tree.specs.Filters.{FilterTree}
 use Rattle.view_sort.specs.Page.{state_text}
 use Rattle.view_sort.specs.View.{view}
 use Rattle.view_sort.specs.declared.page.PageState.{PageState}
-use Rattle.reply_env.specs.Reply.{IsRefusalAfter}
+use Rattle.reply_env.specs.Reply.{IsRefusalOf}
 use Rattle.reply_env.specs.declared.reply.SoFar.{SoFar}
 use Rattle.reply_env.specs.declared.reply.ErrorItem.{ErrorItem}
 use Rattle.reply_env.specs.declared.reply.Reply.{Reply}
 use Rattle.reply_env.specs.declared.reply.Reply.TheVariants.{Listed}
 use Rattle.store_core.specs.State.{State}
 use Rattle.store_core.specs.declared.entry.Entry.{Entry}
-use Rattle.cmd_grammar.specs.Commands.{Shows, Paging, find}
+use Rattle.cmd_grammar.specs.Commands.{Shows, Paging}
 use Rattle.cmd_tasks.specs.Trace.{Sight, Found, end_of, shown_by, shown, IsListing, IsListed}
 use Rattle.cmd_tasks.specs.Attempts.{IsOneOf}
 use Rattle.cmd_tasks.specs.Searches.{stored}
 use Rattle.cmd_tasks.specs.Pages.{last_of}
 use Rattle.cmd_tasks.specs.Part.{given_of, from_of, keep_of, state_after}
-use Rattle.cmd_tasks.specs.Served.{TellsListed, sights, IsPartOf, Answers}
+use Rattle.cmd_tasks.specs.Jobs.{Job, finds}
+use Rattle.cmd_tasks.specs.Served.{TellsListed, sights, IsPartOf, Answers, TellsStop}
 use Rattle.cmd_tasks.specs.Joined.{HasKey, IdsAreTold, Page, Lists, views_of, state_of, GoesOnWith, paging_of, Rise, HasMatch, Matches, looks, joined, IsPage, GoOn, ArePages, ShowEachOnce}
 use Rattle.cmd_tasks.proofs.Ascent.{each_append, each_take, InOrder, each_sight, sights_rows}
 use Rattle.cmd_tasks.proofs.Covering.{same, after_after, one_left, one_right, one_has, each_weaker, IsShown, IsPast, rise_append, IsBefore, listing_rises, listing_told, listing_covers, listing_matches}
@@ -76,9 +77,9 @@ last_past (y ∷ z ∷ xs) x id up e h = (after_after (Some y.id) x.id id (last_
 
 -- ---- replies
 
-not_refusal : (done : Option SoFar) (error : ErrorItem) (r : Reply) → Lists r → IsRefusalAfter done error r → ⊥
-not_refusal done error (Listed views state) l h = h
-not_refusal done error r l h = l
+not_refusal : (es : List ErrorItem) (Told : Option SoFar → Type 0) (r : Reply) → Lists r → IsRefusalOf es Told r → ⊥
+not_refusal es Told (Listed views state) l h = h
+not_refusal es Told r l h = l
 
 told_listed : (ds : List Tree) (next : Option (List ℕ)) (r : Reply) → TellsListed ds next r → (views_of r ≡ ds) × (state_of r ≡ next)
 told_listed ds next (Listed views state) h = h
@@ -125,15 +126,19 @@ module _ (base : State) (H : List Entry) (coll : Name) (f : FilterTree) (shows :
     views : views_of p.reply ≡ map (λ x. view shows x.doc) (part p)
     state : state_of p.reply ≡ state_after [] (paging_of p) (part p)
 
-  is_listing : (k : ℕ) (moment : ℤ) (p : Paging) (seen : List Sight) → IsPartOf base coll k moment (find f [] shows p) seen → IsListing base coll f (from_of p) (keep_of p) seen
-  is_listing k moment p [] h = tt
-  is_listing k moment p (s ∷ earlier) h = (is_listing k moment p earlier h.0, h.1, h.2)
+  is_listing : (k : ℕ) (p : Paging) (seen : List Sight) → IsPartOf base coll k (finds f [] shows p) seen → IsListing base coll f (from_of p) (keep_of p) seen
+  is_listing k p [] h = tt
+  is_listing k p (s ∷ earlier) h = (is_listing k p earlier h.0, h.1, h.2)
+
+  not_stopped : (k : ℕ) (job : Job) (seen : List Sight) (error : ErrorItem) (r : Reply) → Lists r → TellsStop base coll k job seen error r → ⊥
+  not_stopped k job [] error r l h = h
+  not_stopped k job (s ∷ earlier) error r l h = not_refusal _ _ r l h
 
   is_seen : (p : Page) → IsPage base H coll f shows p → IsSeen p
   is_seen p h = ⊎_elim
-      (λ (a : IsPartOf base coll p.session p.moment (find f [] shows (paging_of p)) (seen_in p) × Answers base coll p.session p.moment (find f [] shows (paging_of p)) (seen_in p) p.reply).
-      ⊎_elim (λ q. absurd (no q.0)) (λ q. let told = told_listed _ _ p.reply q.1 in record { listing = is_listing p.session p.moment (paging_of p) (seen_in p) a.0; listed = a.1.0; views = told.0; state = told.1 }) a.1.1)
-      (λ other. ⊎_elim (λ stopped. absurd (not_refusal _ stopped.0 p.reply h.1 stopped.2)) (λ cut. absurd (subst Lists cut.1 h.1)) other)
+      (λ (a : IsPartOf base coll p.session (finds f [] shows (paging_of p)) (seen_in p) × Answers base coll p.session (finds f [] shows (paging_of p)) (seen_in p) p.reply).
+      ⊎_elim (λ q. absurd (no q.0)) (λ q. let told = told_listed _ _ p.reply q.1 in record { listing = is_listing p.session (paging_of p) (seen_in p) a.0; listed = a.1.0; views = told.0; state = told.1 }) a.1.1)
+      (λ other. ⊎_elim (λ stopped. absurd (not_stopped p.session (finds f [] shows (paging_of p)) (seen_in p) stopped.0 p.reply h.1 stopped.2)) (λ cut. absurd (subst Lists cut.1 h.1)) other)
       h.0
     where
       no : false ≡ true → ⊥

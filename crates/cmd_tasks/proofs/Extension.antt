@@ -2,14 +2,16 @@
 use Rattle.std.proofs.Common.{◌≡◌, ℕ, ℤ, ◌+◌, ◌<◌, ◌≤◌, List, [], ◌∷◌, ◌++◌, map, reverse, length, cond, Some, None, refl, sym, ap, ◌∙◌, subst, arith, zero, suc, length-append}
 use Rattle.std.specs.Prelude.{slice_get}
 use Rattle.std.proofs.lemmas.List.{take-append-le}
+use Rattle.json_tree.specs.Tree.{Tree}
 use Rattle.col_keeper.specs.Tables.{Name}
 use Rattle.store_core.specs.State.{State}
 use Rattle.store_core.specs.Journal.{after, Legal, replay, IsJournal}
 use Rattle.cmd_tasks.specs.Trace.{Sight, sight, IsWithin}
+use Rattle.cmd_tasks.specs.Jobs.{job_of}
 use Rattle.cmd_tasks.specs.Served.{Serves, IsServed}
 use Rattle.cmd_grammar.specs.Commands.{CommandTree}
 use Rattle.reply_env.specs.declared.reply.Reply.{Reply}
-use Rattle.cmd_tasks.specs.Session.{Exchange, Asking, asks_for, is_refused, is_unread, Answered, AreWithin, is_work, places, items, AreAnswered, IsSession, NoWork}
+use Rattle.cmd_tasks.specs.Session.{Exchange, Asking, asks_for, is_refused, is_unread, name_of, Answered, AreWithin, is_work, places, items, AreAnswered, IsSession, NoWork}
 use Rattle.store_core.specs.declared.entry.Entry.{Entry}
 use Rattle.cmd_tasks.specs.declared.trace.Item.{Item}
 use Rattle.cmd_tasks.specs.declared.trace.Item.TheVariants.{Looked, Wrote, Lost, Faulted}
@@ -53,9 +55,9 @@ sights_more H more [] h = refl
 sights_more H more (i ∷ is) h = λ j. sight_more H more i h.0 j ∷ sights_more H more is h.1 j
 
 -- what was served stays served
-pub served_more : (base : State) (H more : List Entry) (coll : Name) (k : ℕ) (moment : ℤ) (c : CommandTree) (trace : List Item) (reply : Reply)
-    → AreWithin (length H) trace → IsServed base H coll k moment c trace reply → IsServed base (H ++ more) coll k moment c trace reply
-served_more base H more coll k moment c trace reply w h = subst (λ (s : List Sight). Serves base coll k moment c (reverse s) reply) (sym (sights_more H more trace w)) h
+pub served_more : (base : State) (H more : List Entry) (coll : Name) (k : ℕ) (moment : ℤ) (ids : List Tree) (c : CommandTree) (trace : List Item) (reply : Reply)
+    → AreWithin (length H) trace → IsServed base H coll k moment ids c trace reply → IsServed base (H ++ more) coll k moment ids c trace reply
+served_more base H more coll k moment ids c trace reply w h = subst (λ (s : List Sight). Serves base coll k (job_of moment ids c) (reverse s) reply) (sym (sights_more H more trace w)) h
 
 pub within_longer : (n m : ℕ) (is : List Item) → n ≤ m → AreWithin n is → AreWithin m is
 within_longer n m [] le h = tt
@@ -75,15 +77,16 @@ within_rest : (n : ℕ) (xs ys : List Item) → AreWithin n (xs ++ ys) → AreWi
 within_rest n [] ys h = h
 within_rest n (x ∷ xs) ys h = within_rest n xs ys h.1
 
-pub answered_more : (base : State) (H more : List Entry) (k : ℕ) (moment : ℤ) (asking : Asking) (trace : List Item) (reply : Reply) → AreWithin (length H) trace → Answered base H k moment asking trace reply → Answered base (H ++ more) k moment asking trace reply
-answered_more base H more k moment (asks_for coll c) trace reply w h = served_more base H more coll k moment c trace reply w h
-answered_more base H more k moment (is_refused error) trace reply w h = h
-answered_more base H more k moment is_unread trace reply w h = h
+pub answered_more : (base : State) (H more : List Entry) (k : ℕ) (moment : ℤ) (ids : List Tree) (asking : Asking) (trace : List Item) (reply : Reply)
+    → AreWithin (length H) trace → Answered base H k moment ids asking trace reply → Answered base (H ++ more) k moment ids asking trace reply
+answered_more base H more k moment ids (asks_for coll c) trace reply w h = served_more base H more (name_of coll) k moment ids c trace reply w h
+answered_more base H more k moment ids (is_refused error) trace reply w h = h
+answered_more base H more k moment ids is_unread trace reply w h = h
 
 pub all_answered_more : (base : State) (H more : List Entry) (k : ℕ) (xs : List Exchange) → AreWithin (length H) (items xs) → AreAnswered base H k xs → AreAnswered base (H ++ more) k xs
 all_answered_more base H more k [] w h = tt
 all_answered_more base H more k (x ∷ xs) w h = (
-  answered_more base H more k x.moment x.asking x.trace x.reply (within_front (length H) x.trace (items xs) w) h.0,
+  answered_more base H more k x.moment x.ids x.asking x.trace x.reply (within_front (length H) x.trace (items xs) w) h.0,
   all_answered_more base H more k xs (within_rest (length H) x.trace (items xs) w) h.1,
 )
 

@@ -17,7 +17,7 @@ use Rattle.cmd_tasks.specs.Trace.{Sight, sight, point, Found, now}
 use Rattle.cmd_tasks.specs.Searches.{stored}
 use Rattle.cmd_tasks.specs.Attempts.{IsOneOf}
 use Rattle.cmd_tasks.specs.Served.{sights}
-use Rattle.cmd_tasks.specs.Doing.{Doing, updates, deletes, update_to, change_of}
+use Rattle.cmd_tasks.specs.Doing.{Making, updates, replaces, made, written, Doing, makes, deletes, change_to, change_of}
 use Rattle.cmd_tasks.specs.Taking.{Shown, Standing}
 use Rattle.cmd_tasks.specs.Many.{IsWaiting, IsAttempted}
 use Rattle.cmd_tasks.specs.declared.work.Stand.{Stand}
@@ -60,13 +60,18 @@ not_none a e = cc
 not_refused : (a : Change) (fault : UpdateFault) → ◌≡◌ {A = Result (Option Change) UpdateFault} (Err fault) (Ok (Some a)) → ⊥
 not_refused a fault e = cc
 
+-- what is written makes the document that was to be made
+written_makes : (making : Making) (d new : Tree) → made making d ≡ Ok new → Makes (written making new) d
+written_makes (updates u moment) d new is = is
+written_makes (replaces r) d new is = tt
+
 pub makes_so : (doing : Doing) (d : Tree) (change : Change) → change_of doing d ≡ Ok (Some change) → Makes change d
-makes_so (updates u moment) d change e = go (apply u d moment false) refl e
+makes_so (makes making up) d change e = go (made making d) refl e
   where
-    go : (r : Result Tree UpdateFault) → apply u d moment false ≡ r → update_to u moment d r ≡ Ok (Some change) → Makes change d
-    go (Ok new) is q = elim (same d new) as (λ b. ◌≡◌ {A = Result (Option Change) UpdateFault} (Ok (if b then None else Some (Update u moment new))) (Ok (Some change)) → Makes change d) [
+    go : (r : Result Tree UpdateFault) → made making d ≡ r → change_to making d r ≡ Ok (Some change) → Makes change d
+    go (Ok new) is q = elim (same d new) as (λ b. ◌≡◌ {A = Result (Option Change) UpdateFault} (Ok (if b then None else Some (written making new))) (Ok (Some change)) → Makes change d) [
       | true ↦ λ q. absurd (not_none change q)
-      | false ↦ λ q. subst (λ (c : Change). Makes c d) (same_change (Update u moment new) change q) is
+      | false ↦ λ q. subst (λ (c : Change). Makes c d) (same_change (written making new) change q) (written_makes making d new is)
     ] q
     go (Err fault) is q = absurd (not_refused change fault q)
 makes_so deletes d change e = subst (λ (c : Change). Makes c d) (same_change Delete change e) tt
@@ -80,14 +85,14 @@ module _ (base : Base) (coll : Name) (doing : Doing) (stand : Stand) (attempt : 
   first_stood = let all : AllByRecursion IsSeenOne (h.first ∷ h.rest) = subst (AllByRecursion IsSeenOne) h.queue waiting.stood in all.0
 
   fits_made : GivenOnce → IsJournal base H → AreApart base.collections → IsOld base → (o : Option Version) → version (replay base H) coll attempt.id ≡ o → (change : Change) → Makes change h.first.x.doc → IsMadeOfRead change (Some attempt.read) o
-  fits_made once lawful apart old o there (Insert new) makes = tt
-  fits_made once lawful apart old o there (Replace new) makes = tt
-  fits_made once lawful apart old None there (Update u moment new) makes = tt
-  fits_made once lawful apart old (Some v) there (Update u moment new) makes = λ is.
+  fits_made once lawful apart old o there (Insert new) it = tt
+  fits_made once lawful apart old o there (Replace new) it = tt
+  fits_made once lawful apart old None there (Update u moment new) it = tt
+  fits_made once lawful apart old (Some v) there (Update u moment new) it = λ is.
       let x = h.first.x in
       let still = stands_still base coll H trace x h.first.look first_stood.0 first_stood.1 once lawful apart old v (ap (λ (i : Tree). version (replay base H) coll i) h.id ∙ there) (sym (same_some attempt.read v.tx is) ∙ sym h.read) in
-      ap (λ (z : Version). apply u z.doc moment false) still ∙ makes
-  fits_made once lawful apart old o there Delete makes = tt
+      ap (λ (z : Version). apply u z.doc moment false) still ∙ it
+  fits_made once lawful apart old o there Delete it = tt
 
   pub fits_attempt : GivenOnce → IsJournal base H → AreApart base.collections → IsOld base → (o : Option Version) → version (replay base H) coll attempt.id ≡ o → IsMadeOfRead attempt.change (Some attempt.read) o
   fits_attempt once lawful apart old o there = fits_made once lawful apart old o there attempt.change (makes_so doing h.first.x.doc attempt.change h.change)

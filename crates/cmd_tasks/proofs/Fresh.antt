@@ -112,7 +112,7 @@ module _ (base : Base) (coll : Name) (f : FilterTree) where
       empty [] l = refl
       empty (x ∷ xs) l = absurd (omega arith)
 
-  full_ends : (r : Rows) (i : Item) → FullPage base coll f r i → is_none (end_of i) ≡ false
+  pub full_ends : (r : Rows) (i : Item) → FullPage base coll f r i → is_none (end_of i) ≡ false
   full_ends r (Looked at after up page) h = ap is_none h.0.1
   full_ends r (Wrote at) h = absurd h
   full_ends r (Lost at read found) h = absurd h

@@ -16,11 +16,13 @@ use Rattle.reply_env.specs.declared.reply.Reply.{Reply}
 use Rattle.store_core.specs.State.{State, IsGone}
 use Rattle.store_core.specs.Journal.{replay}
 use Rattle.store_core.specs.Outcomes.{ShowsPage}
+use Rattle.store_core.specs.Counts.{by_of}
 use Rattle.store_core.specs.declared.entry.Entry.{Entry}
-use Rattle.store_core.specs.declared.entry.Entry.TheVariants.{Changed, Failed}
+use Rattle.store_core.specs.declared.entry.Entry.TheVariants.{Created, Dropped, Changed, Failed}
 use Rattle.store_core.specs.declared.entry.Change.{Change}
 use Rattle.cmd_tasks.specs.Trace.{sight, rows_now, found_in, probed_in, probe_of}
 use Rattle.cmd_tasks.specs.Served.{Stops}
+use Rattle.cmd_tasks.specs.Session.{is_work, AreCounted}
 use Rattle.cmd_tasks.specs.Pages.{found_row, up_of}
 use Rattle.cmd_tasks.specs.Looking.{Made, GoesUp, IsLooked, ShowsRows, ShowsNothing, StopsWith, Glances, Sees, StopsSo, Refuses}
 use Rattle.cmd_tasks.specs.declared.trace.Item.{Item}
@@ -54,15 +56,25 @@ failed_here k low high H H' at before count longer here rose low_is high_is = re
   records = record { here = here; stands = omega (arith, here); own = ap (λ (b : Bool). cond b (length H ∷ []) []) (eq-eqb k k refl) ∙ ap (λ (n : ℕ). n ∷ []) (sym here) };
 }
 
-pub wrote_here : (k low high : ℕ) (H H' : List Entry) (at tx : ℕ) (coll : Name) (id : Tree) (change : Change) (before : Option ℕ) → H' ≡ H ++ Changed k coll id change before tx ∷ [] → at ≡ length H → Made k low high H H' (Wrote at)
-wrote_here k low high H H' at tx coll id change before longer here = record {
+-- an item that wrote, and its entry
+pub entered_here : (k low high : ℕ) (H H' : List Entry) (at : ℕ) (e : Entry) → is_work k e ≡ true → by_of e ≡ k → AreCounted low high (e ∷ []) → H' ≡ H ++ e ∷ [] → at ≡ length H → Made k low high H H' (Wrote at)
+entered_here k low high H H' at e work by_is counted longer here = record {
   risen = tt;
-  alone = (refl, tt);
-  counted = tt;
-  more = Changed k coll id change before tx ∷ [];
+  alone = (by_is, tt);
+  counted = counted;
+  more = e ∷ [];
   longer = longer;
-  records = record { here = here; stands = omega (arith, here); own = ap (λ (b : Bool). cond b (length H ∷ []) []) (eq-eqb k k refl) ∙ ap (λ (n : ℕ). n ∷ []) (sym here) };
+  records = record { here = here; stands = omega (arith, here); own = ap (λ (b : Bool). cond b (length H ∷ []) []) work ∙ ap (λ (n : ℕ). n ∷ []) (sym here) };
 }
+
+pub wrote_here : (k low high : ℕ) (H H' : List Entry) (at tx : ℕ) (coll : Name) (id : Tree) (change : Change) (before : Option ℕ) → H' ≡ H ++ Changed k coll id change before tx ∷ [] → at ≡ length H → Made k low high H H' (Wrote at)
+wrote_here k low high H H' at tx coll id change before longer here = entered_here k low high H H' at (Changed k coll id change before tx) (eq-eqb k k refl) refl tt longer here
+
+pub created_here : (k low high : ℕ) (H H' : List Entry) (at : ℕ) (coll : Name) → H' ≡ H ++ Created k coll ∷ [] → at ≡ length H → Made k low high H H' (Wrote at)
+created_here k low high H H' at coll longer here = entered_here k low high H H' at (Created k coll) (eq-eqb k k refl) refl tt longer here
+
+pub dropped_here : (k low high : ℕ) (H H' : List Entry) (at : ℕ) (coll : Name) → H' ≡ H ++ Dropped k coll ∷ [] → at ≡ length H → Made k low high H H' (Wrote at)
+dropped_here k low high H H' at coll longer here = entered_here k low high H H' at (Dropped k coll) (eq-eqb k k refl) refl tt longer here
 
 pub lost_here : (k low high : ℕ) (H H' : List Entry) (at read : ℕ) (found : Option ℕ) → H' ≡ H → at ≡ length H → Made k low high H H' (Lost at read found)
 lost_here k low high H H' at read found same here = record {

@@ -5,14 +5,24 @@ mod Listing
 mod Ranks
 mod Lasts
 mod Fresh
+mod Misses
 mod PageStates
 mod Glances
 mod Shorts
 mod Keeping
 mod Searching
 mod Requests
+mod Puts
+mod Inserting
+mod Shapes
 mod Selecting
 mod Beginnings
+mod Keys
+mod Texts
+mod Places
+mod Fronting
+mod Drawing
+mod Written
 mod Accepted
 mod Standing
 mod Running
@@ -20,9 +30,10 @@ mod Opening
 pub mod Attempts
 pub mod Lookback
 mod Fitting
+mod Replies
 pub mod Rounds
 pub mod Tries
-pub mod Contests
+mod Placings
 mod Ascent
 mod Covering
 mod Client
@@ -30,9 +41,12 @@ mod Stepping
 mod Tallying
 mod Reaching
 mod Telling
-mod Deletions
 mod Settling
 mod Goings
+mod Kept
+mod Turnings
+mod Upserted
+mod ManyPuts
 mod Waiting
 mod Apart
 mod Following
@@ -41,3 +55,9 @@ mod Pagings
 mod Trials
 mod Retrials
 mod Fewness
+mod Calm
+mod Smooth
+mod Unfailed
+mod Errors
+mod Undisturbing
+mod Refusals

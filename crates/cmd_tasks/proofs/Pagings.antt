@@ -13,15 +13,15 @@ use Rattle.reply_env.specs.declared.reply.Reply.{Reply}
 use Rattle.reply_env.specs.declared.update_errors.Loss.{Loss}
 use Rattle.store_core.specs.State.{State as Base}
 use Rattle.store_core.specs.declared.entry.Entry.{Entry}
-use Rattle.cmd_grammar.specs.Commands.{CommandTree}
 use Rattle.cmd_tasks.specs.Trace.{Sight, sight, Found, Looks, IsLook, FullPage, rows_now, shown_by, end_of}
 use Rattle.cmd_tasks.specs.Served.{IsPartOf, Marks, IsToWrite, Serves}
 use Rattle.cmd_tasks.specs.Pages.{found_row}
 use Rattle.cmd_tasks.specs.Looking.{Sees, StopsSo, Refuses}
 use Rattle.cmd_tasks.specs.Doing.{Doing}
-use Rattle.cmd_tasks.specs.Taking.{Shown, Standing, settle, shown_with, list_on, with_look, with_item, Turn, turn, looks_on}
+use Rattle.cmd_tasks.specs.Jobs.{Job}
+use Rattle.cmd_tasks.specs.Taking.{Shown, Standing, not_put, settle, shown_with, list_on, with_look, with_item, Turn, turn, looks_on}
 use Rattle.cmd_tasks.specs.Turns.{IsWrite, MarksTurn, Follows}
-use Rattle.cmd_tasks.specs.Many.{doing_of, taking, MayPage, IsWaiting, IsStanding}
+use Rattle.cmd_tasks.specs.Many.{doing_of, taking, put_for, IsWaiting, IsStanding}
 use Rattle.cmd_tasks.specs.Going.{GoesOnFrom}
 use Rattle.cmd_tasks.specs.ManySteps.{HasPage, TellsAfter}
 use Rattle.cmd_tasks.specs.Moves.{IsUnderWay, Leads, stands_at}
@@ -34,7 +34,9 @@ use Rattle.cmd_tasks.specs.declared.trace.Item.{Item}
 use Rattle.cmd_tasks.specs.declared.trace.Item.TheVariants.{Looked, Wrote, Lost, Faulted}
 use Rattle.cmd_tasks.proofs.Rounds.{stops_more}
 use Rattle.cmd_tasks.proofs.Waiting.{Waits, waits, is_waiting, waits_page, waits_settled}
-use Rattle.cmd_tasks.proofs.Following.{paging_turn, settled_again, Reads, reads, many_stopped, goes_leads}
+use Rattle.cmd_tasks.proofs.Kept.{settled_again, settled_put}
+use Rattle.cmd_tasks.proofs.Turnings.{paging_turn}
+use Rattle.cmd_tasks.proofs.Following.{many_stopped, goes_leads}
 
 shown_back : (s : Sight) (xs : List Found) → map (λ (t : Shown). t.x) (shown_with s xs) ≡ xs
 shown_back s [] = refl
@@ -46,28 +48,25 @@ no_entry H' base coll f from r (Wrote at) h = absurd h
 no_entry H' base coll f from r (Lost at read found) h = absurd h
 no_entry H' base coll f from r (Faulted at before count) h = absurd h
 
-module _ (base : Base) (coll : Name) (k : ℕ) (moment : ℤ) (many : Many) (stand : Stand) (may : MayPage many.doing many.page.value) (unlisted : stand.is_whole ≡ false) (H' : List Entry) (earlier : List Sight) (way : IsUnderWay base coll k moment (Paging many stand) earlier) where
+module _ (base : Base) (coll : Name) (k : ℕ) (many : Many) (stand : Stand) (unlisted : stand.is_whole ≡ false) (H' : List Entry) (earlier : List Sight) (way : IsUnderWay base coll k (Paging many stand) earlier) where
   abbrev f : FilterTree
   f = filter_tree many.wanted.filter
 
   abbrev doing : Doing
   doing = doing_of many.doing
 
-  abbrev c : CommandTree
-  c = taking many
+  abbrev job : Job
+  job = taking many
 
   -- where it stands before the page
   abbrev st : Standing
-  st = stands_at base coll k moment many earlier
+  st = stands_at base coll k many earlier
 
   whole : st.is_whole ≡ false
   whole = sym way.1.3.is_whole ∙ unlisted
 
-  tells : Reads base coll k moment f c doing many.page.value
-  tells = reads base coll k moment f many.doing many.page.value way.1.4 may
-
-  looks : turn doing st ≡ looks_on st.from
-  looks = paging_turn doing st way.1.2 way.1.1 whole
+  looks : turn (put_for many) doing st ≡ looks_on st.from
+  looks = paging_turn (put_for many) doing st way.1.2 way.1.1 whole
 
   -- the page
   module _ (item : Item) (page : Vec Version Global) (up : Option Tree) (sees : Sees base coll k H' f stand.from (g.Shown item page up)) where
@@ -83,8 +82,8 @@ module _ (base : Base) (coll : Name) (k : ℕ) (moment : ℤ) (many : Many) (sta
     full : IfSome (end_of item) (λ u. FullPage base coll f (rows_now base coll s) item)
     full = subst (λ (o : Option Tree). IfSome o (λ u. FullPage base coll f (rows_now base coll s) item)) (sym sees.2) sees.3
 
-    part : IsPartOf base coll k moment c (s ∷ earlier)
-    part = (way.0.0, way.0.1, tells.follows earlier s (subst (λ (t : Turn). Follows base coll k f t s) (sym looks) (next, full)))
+    part : IsPartOf base coll k job (s ∷ earlier)
+    part = (way.0.0, way.0.1, subst (λ (t : Turn). Follows base coll k f t s) (sym looks) (next, full))
 
     looked : (i : Item) → Looks base coll f (rows_now base coll s) st.from i → with_item base coll f doing i s st ≡ settle doing (with_look base coll f st.again s st)
     looked (Looked at after to shown) h = refl
@@ -92,7 +91,7 @@ module _ (base : Base) (coll : Name) (k : ℕ) (moment : ℤ) (many : Many) (sta
     looked (Lost at read found) h = absurd h
     looked (Faulted at before count) h = absurd h
 
-    stands : stands_at base coll k moment many (s ∷ earlier) ≡ settle doing listed
+    stands : stands_at base coll k many (s ∷ earlier) ≡ settle doing listed
     stands = looked item next.1 ∙ ap (λ (b : Bool). settle doing (with_look base coll f b s st)) way.1.2
 
     queue_is : listed.queue ≡ shown_with s (shown_by base coll f s)
@@ -107,6 +106,9 @@ module _ (base : Base) (coll : Name) (k : ℕ) (moment : ℤ) (many : Many) (sta
     again : (settle doing listed).again ≡ false
     again = settled_again doing listed.queue listed ∙ way.1.2
 
+    unput : (settle doing listed).put ≡ not_put
+    unput = settled_put doing listed.queue listed ∙ way.1.3.unput
+
     -- the state tells it
     standing_of : (new : Stand) → HasPage stand page.items up new → IsStanding new listed listed.queue
     standing_of new has = record {
@@ -117,17 +119,19 @@ module _ (base : Base) (coll : Name) (k : ℕ) (moment : ℤ) (many : Many) (sta
       matched = has.matched_is ∙ way.1.3.matched;
       modified = has.modified_is ∙ way.1.3.modified;
       last = has.last_is ∙ way.1.3.last;
+      unput = way.1.3.unput;
     }
 
-    pub page_leads : (new : Stand) (o : Moved) → HasPage stand page.items up new → ((z : Standing) → IsStanding new z z.queue → z.again ≡ false → GoesOnFrom many item (settle doing z) o) → Leads base coll k moment H' (Paging many stand) earlier o
-    page_leads new o has goes = goes_leads base coll k moment many way.1.4 may H' earlier item part (ap (λ (z : Standing). z.again) stands ∙ again)
+    pub page_leads : (new : Stand) (o : Moved) → HasPage stand page.items up new → ((z : Standing) → IsStanding new z z.queue → z.again ≡ false → GoesOnFrom many item (settle doing z) o) → Leads base coll k H' (Paging many stand) earlier o
+    page_leads new o has goes = goes_leads base coll k many H' earlier item part (ap (λ (z : Standing). z.again) stands ∙ again) (ap (λ (z : Standing). z.put) stands ∙ unput)
         (subst (λ (z : Standing). IsWaiting base coll z (s ∷ earlier)) (sym stands) waiting) (Paging many stand) o refl
         (subst (λ (z : Standing). GoesOnFrom many item z o) (sym stands) (goes listed (standing_of new has) way.1.2))
 
   -- no page
-  pub page_stopped : (item : Item) (reply told : Reply) → StopsSo base coll k H' stand.from item reply → ((error : ErrorItem) → Refuses error reply → TellsAfter many.doing stand error told) → Serves base coll k moment c (sight H' item ∷ earlier) told
-  page_stopped item reply told stops tells_after = many_stopped base coll k moment f c doing many.page.value tells earlier (sight H' item) stops.0 told way.0
-      (stops_more base coll k _ (Marks base coll k moment c earlier) (IsToWrite base coll k moment c earlier) item (sight H' item) stops.0
-      (λ a t z. tells.marks earlier a t (subst (λ (x : Turn). MarksTurn x a t) (sym looks) (z.0 ∙ way.1.3.from, z.1)))
-      (λ w. subst IsWrite looks (tells.to_write earlier w)) stops.1)
+  pub page_stopped : (item : Item) (reply told : Reply) → StopsSo base coll k H' stand.from item reply → ((error : ErrorItem) → Refuses error reply → TellsAfter many.doing stand error told) → Serves base coll k job (sight H' item ∷ earlier) told
+  page_stopped item reply told stops tells_after = many_stopped base coll k f doing many.page.value earlier (sight H' item) stops.0 told way.0
+      (stops_more base coll k _ (Marks base coll k job earlier) (IsToWrite base coll k job earlier) item (sight H' item) stops.0
+      (λ a t z. subst (λ (x : Turn). MarksTurn x a t) (sym looks) (z.0 ∙ way.1.3.from, z.1))
+      (λ w. subst IsWrite looks w) stops.1)
+      way.1.3.unput
       (tells_after stops.0 stops.2 st way.1.3.matched way.1.3.modified)

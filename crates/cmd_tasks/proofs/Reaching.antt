@@ -1,6 +1,6 @@
 -- How far the pages of a command came that takes many documents: they show documents in order of id, and come by each id.
-use Rattle.std.proofs.Common.{◌≡◌, ℕ, zero, suc, List, [], ◌∷◌, ◌++◌, map, Bool, true, false, Option, Some, None, refl, sym, ap, ◌∙◌, subst, ⊎_elim, ◌⊎◌, inl, inr}
-use Rattle.std.specs.Prelude.{◌&&◌, IfSome, nat_lt, is_none, if◌then◌else◌}
+use Rattle.std.proofs.Common.{◌≡◌, ℕ, zero, suc, List, [], ◌∷◌, ◌++◌, map, Bool, true, false, Option, Some, None, Result, refl, sym, ap, ◌∙◌, subst, ⊎_elim, ◌⊎◌, inl, inr}
+use Rattle.std.specs.Prelude.{◌&&◌, IfSome, is_none}
 use Rattle.std.specs.List.{AllByRecursion as Each}
 use Rattle.std.proofs.lemmas.List.{append-nil, map-append}
 use Rattle.json_tree.specs.Tree.{Tree}
@@ -10,20 +10,23 @@ use Rattle.shred_cols.specs.Rows.{Rows, is_after, ascends}
 use Rattle.col_keeper.specs.Tables.{Name}
 use Rattle.filter_tree.specs.Filters.{FilterTree}
 use Rattle.filter_tree.specs.Matches.{matches}
+use Rattle.update_ops.specs.declared.fault.UpdateFault.{UpdateFault}
 use Rattle.store_core.specs.State.{State}
 use Rattle.cmd_tasks.specs.Trace.{Sight, Found, found, up_to, end_of, rows_now, seen_by, shown_by, Looks, FullPage}
 use Rattle.cmd_tasks.specs.Attempts.{IsOneOf}
 use Rattle.cmd_tasks.specs.Joined.{Rise}
-use Rattle.cmd_tasks.specs.Doing.{Doing, change_of}
-use Rattle.cmd_tasks.specs.Taking.{Shown, Standing, count, is_unchanged, settled, settle, shown_with, win, shown_alone, list_on, replace, standing}
+use Rattle.cmd_tasks.specs.Doing.{Doing}
+use Rattle.cmd_tasks.specs.Taking.{Shown, Standing, settle, shown_with, win, shown_alone, list_on, replace, standing}
 use Rattle.cmd_tasks.specs.Tally.{comes_by, listed, CameBy}
 use Rattle.cmd_tasks.specs.declared.trace.Item.{Item}
 use Rattle.cmd_tasks.specs.declared.trace.Item.TheVariants.{Looked, Wrote, Lost, Faulted}
 use Rattle.cmd_tasks.proofs.Ascent.{each_append}
 use Rattle.cmd_tasks.proofs.Covering.{and_parts, beyond, one_left, one_right, each_weaker, IsPast, rise_append, is_found, look_behind, look_rises}
 use Rattle.cmd_tasks.proofs.Listing.{ids_total}
-use Rattle.cmd_tasks.proofs.Stepping.{IsPaged, IsRelooked, IsWritten, steps}
-use Rattle.cmd_tasks.proofs.Tallying.{one_more, AreSteps}
+use Rattle.cmd_tasks.proofs.Stepping.{IsPaged, IsRelooked, IsWritten, IsBeaten, IsPutting, steps}
+use Rattle.cmd_tasks.proofs.Accepted.{AreSteps}
+use Rattle.cmd_tasks.proofs.Kept.{settled_from, settled_whole}
+use Rattle.cmd_tasks.proofs.Tallying.{one_more}
 
 -- ---- one page
 
@@ -74,18 +77,8 @@ module _ (base : State) (coll : Name) (f : FilterTree) (r : Rows) where
 
 module _ (base : State) (coll : Name) (k : ℕ) (f : FilterTree) (doing : Doing) where
   -- documents that need no write leave the listing where it is
-  settled_listing : (queue : List Shown) (st : Standing) → ((settled doing queue st).from ≡ st.from) × ((settled doing queue st).is_whole ≡ st.is_whole)
-  settled_listing [] st = (refl, refl)
-  settled_listing (q ∷ rest) st =
-      elim (nat_lt st.matched 20 && is_unchanged (change_of doing q.x.doc)) as (λ b.
-      ((if b then settled doing rest (count q.x 0 rest st) else record st { queue = q ∷ rest }).from ≡ st.from)
-      × ((if b then settled doing rest (count q.x 0 rest st) else record st { queue = q ∷ rest }).is_whole ≡ st.is_whole)) [
-        | true ↦ settled_listing rest (count q.x 0 rest st)
-        | false ↦ (refl, refl)
-      ]
-
   settle_listing : (st : Standing) → ((settle doing st).from ≡ st.from) × ((settle doing st).is_whole ≡ st.is_whole)
-  settle_listing st = settled_listing st.queue st
+  settle_listing st = (settled_from doing st.queue st, settled_whole doing st.queue st)
 
   abbrev shows : List Sight → List Found
   shows sights = map (λ s. s.x) (listed base coll f sights)
@@ -163,28 +156,26 @@ module _ (base : State) (coll : Name) (k : ℕ) (f : FilterTree) (doing : Doing)
 
     written : (s : Sight) (earlier : List Sight) (st new : Standing) → IsWritten base coll k f doing s st new → IsReached earlier st → IsReached (s ∷ earlier) new
     written s earlier st new p r =
-        let next : Standing = win st.queue st in
-        let there = listing st.queue in
-        still s earlier st new p.lists (ap (λ z. z.from) p.new_is ∙ ((settle_listing next).0 ∙ there.0)) (ap (λ z. z.is_whole) p.new_is ∙ ((settle_listing next).1 ∙ there.1)) r
-      where
-        listing : (qs : List Shown) → ((win qs st).from ≡ st.from) × ((win qs st).is_whole ≡ st.is_whole)
-        listing [] = (refl, refl)
-        listing (q ∷ qs) = (refl, refl)
+        let next : Standing = win (p.first ∷ p.rest) st in
+        still s earlier st new p.lists (ap (λ z. z.from) p.new_is ∙ (settle_listing next).0) (ap (λ z. z.is_whole) p.new_is ∙ (settle_listing next).1) r
 
     -- how far the pages have come
-    pub reached : (sights : List Sight) → Each (λ s. ascends (rows_now base coll s) ≡ true) sights → AreSteps base coll k f doing from sights → IsReached sights (standing base coll f doing from sights)
-    reached [] sorted h = record { rise = tt; behind = λ un y a. (a, tt); reach = λ id a. inr (refl, a) }
-    reached (s ∷ earlier) sorted h =
+    pub reached : (up : Option (Result Tree UpdateFault)) (sights : List Sight) → Each (λ s. ascends (rows_now base coll s) ≡ true) sights → AreSteps base coll k f doing up from sights → IsReached sights (standing base coll f doing from sights)
+    reached up [] sorted h = record { rise = tt; behind = λ un y a. (a, tt); reach = λ id a. inr (refl, a) }
+    reached up (s ∷ earlier) sorted h =
         let st = standing base coll f doing from earlier in
         let new = standing base coll f doing from (s ∷ earlier) in
-        let r = reached earlier sorted.1 h.0 in
+        let r = reached up earlier sorted.1 h.0 in
         ⊎_elim
         (λ p. paged s earlier st new sorted.0 p r)
         (λ more. ⊎_elim
         (λ p. relooked s earlier st new p r)
         (λ more. ⊎_elim
         (λ p. written s earlier st new p r)
-        (λ p. still s earlier st new p.lists (ap (λ z. z.from) p.new_is) (ap (λ z. z.is_whole) p.new_is) r)
+        (λ more. ⊎_elim
+        (λ (p : IsBeaten base coll k f doing s st new). still s earlier st new p.lists (ap (λ z. z.from) p.new_is) (ap (λ z. z.is_whole) p.new_is) r)
+        (λ (p : IsPutting base coll k f doing up s st new). still s earlier st new p.lists (ap (λ z. z.from) p.new_is) (ap (λ z. z.is_whole) p.new_is) r)
         more)
         more)
-        (steps base coll k f doing s st h.1)
+        more)
+        (steps base coll k f doing up s st h.1)

@@ -13,17 +13,17 @@ use Rattle.reply_env.specs.declared.reply.Reply.{Reply}
 use Rattle.reply_env.specs.declared.reply.Reply.TheVariants.{NoMemory}
 use Rattle.cmd_grammar.specs.Commands.{command_tree}
 use Rattle.cmd_tasks.specs.Served.{IsServed}
-use Rattle.cmd_tasks.specs.Session.{Exchange, asks_for, IsSession, IsAnswered, Records, AreCounted}
+use Rattle.cmd_tasks.specs.Session.{Exchange, asks_for, name_of, IsSession, IsAnswered, Records, AreCounted}
 use Rattle.cmd_tasks.specs.Looking.{Risen}
-use Rattle.cmd_tasks.specs.Moves.{accepted_by}
-use Rattle.cmd_tasks.specs.Stands.{StandsOn, IsSame, Adds, IfDone, exchange, answered_by}
+use Rattle.cmd_tasks.specs.Moves.{ids_for, accepted_by}
+use Rattle.cmd_tasks.specs.Stands.{StandsOn, IsSame, Adds, IfDone, ids_of, exchange, answered_by}
 use Rattle.cmd_tasks.specs.declared.task.Task.{Task}
 use Rattle.cmd_tasks.specs.declared.task.Served.{Served}
 use Rattle.cmd_tasks.specs.declared.trace.Item.{Item}
 use Rattle.cmd_tasks.specs.declared.work.State.{State}
-use Rattle.cmd_tasks.specs.declared.work.State.TheVariants.{Inserting, Selecting, Listing, Counting, Choosing, Changing, Seeking, Deleting, Paging, Trying, Retrying, Done}
+use Rattle.cmd_tasks.specs.declared.work.State.TheVariants.{Inserting, Selecting, Listing, Counting, Choosing, Changing, Putting, Paging, Trying, Retrying, PuttingMany, Creating, Dropping, Naming, Unready, Done}
 use Rattle.cmd_tasks.proofs.Sessions.{session_begins, session_steps, session_ends}
-use Rattle.cmd_tasks.proofs.Standing.{stands_served}
+use Rattle.cmd_tasks.proofs.Standing.{IsServedAs, stands_served}
 
 pub opened_more : (H more : List Entry) → opened_in H ≤ opened_in (H ++ more)
 opened_more [] more = omega arith
@@ -80,7 +80,7 @@ adds_session base low high H H' k xs x y a journal serves h = ⊎_elim
     (session_steps base H z.1 k xs x y z.0 h (subst (IsJournal base) z.3 journal) z.2 z.4 (subst (λ (l : List Entry). IsAnswered base l k y) z.3 serves))) a
 
 same_then : (a b c : Task) → IsSame a b → IsSame b c → IsSame a c
-same_then a b c p q = record { session = q.session ∙ p.session; coll = q.coll ∙ p.coll; moment = q.moment ∙ p.moment; command = q.command ∙ p.command }
+same_then a b c p q = record { session = q.session ∙ p.session; coll = q.coll ∙ p.coll; moment = q.moment ∙ p.moment; ids = q.ids ∙ p.ids; command = q.command ∙ p.command }
 
 module _ {K : Type 0} (failed : K → ℕ) where
   -- the request that began with the task t₀ on the store s₀ has come as far as the task t on the store s
@@ -98,7 +98,7 @@ module _ {K : Type 0} (failed : K → ℕ) where
   serving_begins s t known none stands lawful = record {
     known = known;
     stands = stands;
-    same = record { session = refl; coll = refl; moment = refl; command = refl };
+    same = record { session = refl; coll = refl; moment = refl; ids = refl; command = refl };
     base = (refl, refl, refl);
     lawful = lawful;
     grown = ([], sym (append-nil s.journal), tt, tt);
@@ -128,12 +128,12 @@ module _ {K : Type 0} (failed : K → ℕ) where
     faults_after = omega (arith, v.faults, faults)
 
     -- what a step makes of the session
-    pub session_after : (reply : Reply) → ForSome s.start (λ base. IsServed base s'.journal t'.coll t'.session t'.trace.moment (command_tree t'.command.value) t'.trace.items.items reply)
+    pub session_after : (reply : Reply) → IsServedAs s.start s'.journal t' t'.trace.items.items reply
         → ForSome s₀.start (λ base. (xs : List Exchange) → IsSession base s₀.journal t₀.session xs → IsSession base s'.journal t₀.session (xs ++ exchange t' reply ∷ []))
     session_after reply serves = λ base told xs h.
         let now = v.base.1 ∙ told in
         adds_session base (failed s.keeper) (failed s'.keeper) s.journal s'.journal t₀.session xs (exchange t (NoMemory (accepted_by t.state))) (exchange t' reply) by_session (lawful base (base'.1 ∙ now)).0
-        (subst (λ (k : ℕ). IsServed base s'.journal t'.coll k t'.trace.moment (command_tree t'.command.value) t'.trace.items.items reply) (same.session ∙ v.same.session) (serves base now)) (v.session base told xs h)
+        (subst (λ (k : ℕ). IsServed base s'.journal (name_of t'.coll) k t'.trace.moment (ids_of t') (command_tree t'.command.value) t'.trace.items.items reply) (same.session ∙ v.same.session) (serves base now)) (v.session base told xs h)
 
     pub serving_goes_on : StandsOn s'.start s'.journal t' → IsServing s₀ s' t₀ t'
     serving_goes_on stands = record {
@@ -148,31 +148,39 @@ module _ {K : Type 0} (failed : K → ℕ) where
     }
 
 pub done_more : (s : State) (P Q : Reply → Type 0) → ((r : Reply) → P r → Q r) → IfDone s P → IfDone s Q
-done_more (Inserting d) P Q f h = h
+done_more (Inserting i) P Q f h = h
 done_more (Selecting search p shows) P Q f h = h
 done_more (Listing search p part) P Q f h = h
 done_more (Counting w last n) P Q f h = h
-done_more (Choosing u p) P Q f h = h
-done_more (Changing u read d) P Q f h = h
-done_more (Seeking d p) P Q f h = h
-done_more (Deleting d read id) P Q f h = h
+done_more (Choosing one p) P Q f h = h
+done_more (Changing one attempt reply) P Q f h = h
+done_more (Putting one doc reply) P Q f h = h
 done_more (Paging many stand) P Q f h = h
 done_more (Trying many stand attempt) P Q f h = h
 done_more (Retrying many stand id) P Q f h = h
+done_more (PuttingMany many stand doc reply) P Q f h = h
+done_more Creating P Q f h = h
+done_more Dropping P Q f h = h
+done_more Naming P Q f h = h
+done_more (Unready command moment ids) P Q f h = h
 done_more (Done r) P Q f h = f r h
 
 done_with : (s : State) (P : Reply → Type 0) → IfDone s P → (r : Reply) × (s ≡ Done r) × P r
-done_with (Inserting d) P h = absurd h
+done_with (Inserting i) P h = absurd h
 done_with (Selecting search p shows) P h = absurd h
 done_with (Listing search p part) P h = absurd h
 done_with (Counting w last n) P h = absurd h
-done_with (Choosing u p) P h = absurd h
-done_with (Changing u read d) P h = absurd h
-done_with (Seeking d p) P h = absurd h
-done_with (Deleting d read id) P h = absurd h
+done_with (Choosing one p) P h = absurd h
+done_with (Changing one attempt reply) P h = absurd h
+done_with (Putting one doc reply) P h = absurd h
 done_with (Paging many stand) P h = absurd h
 done_with (Trying many stand attempt) P h = absurd h
 done_with (Retrying many stand id) P h = absurd h
+done_with (PuttingMany many stand doc reply) P h = absurd h
+done_with Creating P h = absurd h
+done_with Dropping P h = absurd h
+done_with Naming P h = absurd h
+done_with (Unready command moment ids) P h = absurd h
 done_with (Done r) P h = (r, refl, h)
 
 -- a task that is done hands back what its session was told
@@ -182,7 +190,7 @@ pub handed_back : (start : Option Base) (H H' : List Entry) (k : ℕ) (t t' : Ta
 handed_back start H H' k t t' s same reply trace served = λ base told xs h.
     let d = done_with t'.state _ served in
     let is : s.reply ≡ d.0 = let P : State → Type 0 = λ z. IfDone z (λ r. s.reply ≡ r) in subst P d.1 reply in
-    let one : exchange t' d.0 ≡ answered_by t s = λ i. record { asking = asks_for (same.coll i) (command_tree (same.command i)); moment = (sym trace i).moment; trace = (sym trace i).items.items; reply = sym is i } in
+    let one : exchange t' d.0 ≡ answered_by t s = λ i. record { asking = asks_for (same.coll i) (command_tree (same.command i)); moment = (sym trace i).moment; ids = ids_for (same.ids i) (command_tree (same.command i)); trace = (sym trace i).items.items; reply = sym is i } in
     subst (λ (x : Exchange). IsSession base H' k (xs ++ x ∷ [])) one (d.2 base told xs h)
 
 -- it is done

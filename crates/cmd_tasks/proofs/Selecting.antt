@@ -1,5 +1,5 @@
 -- How findOne and find go on, or are answered, by what a step of their search tells.
-use Rattle.std.proofs.Common.{◌≡◌, ◌⊎◌, ℕ, ℤ, zero, suc, List, [], ◌∷◌, map, take, drop, Option, Some, None, refl, sym, ap, ◌∙◌, subst, inl, inr, ⊎_elim}
+use Rattle.std.proofs.Common.{◌≡◌, ◌⊎◌, ℕ, zero, suc, List, [], ◌∷◌, map, take, drop, Option, Some, None, refl, sym, ap, ◌∙◌, subst, inl, inr, ⊎_elim}
 use Rattle.std.specs.Option.{option_map}
 use Rattle.std.proofs.lemmas.List.{drop-take}
 use Rattle.json_tree.specs.Tree.{Tree}
@@ -11,14 +11,14 @@ use Rattle.filter_tree.specs.View.{filter_tree}
 use Rattle.view_sort.specs.Sort.{SortKeys}
 use Rattle.view_sort.specs.View.{view}
 use Rattle.reply_env.specs.declared.reply.Reply.{Reply}
-use Rattle.reply_env.specs.declared.reply.Reply.TheVariants.{NoMemory}
 use Rattle.store_core.specs.State.{State as Base}
 use Rattle.store_core.specs.declared.entry.Entry.{Entry}
-use Rattle.cmd_grammar.specs.Commands.{CommandTree, Shows, Paging, find_one, find}
+use Rattle.cmd_grammar.specs.Commands.{Shows, Paging}
+use Rattle.cmd_tasks.specs.Jobs.{Job, finds_one, finds}
 use Rattle.cmd_tasks.specs.Trace.{Sight, Found, sight, shown, GoesOn, IsListed}
 use Rattle.cmd_tasks.specs.Searches.{bound, in_order}
 use Rattle.cmd_tasks.specs.Part.{from_of, keep_of, most_of, part_of, state_after}
-use Rattle.cmd_tasks.specs.Served.{IsPartOf, Answers, Serves, TellsFound, TellsListed, accepted}
+use Rattle.cmd_tasks.specs.Served.{IsPartOf, Serves, TellsFound, TellsListed}
 use Rattle.cmd_tasks.specs.Pages.{found_row}
 use Rattle.cmd_tasks.specs.Looking.{Made}
 use Rattle.cmd_tasks.specs.Searching.{IsSearching, IsUnended, Seeks}
@@ -34,7 +34,7 @@ use Rattle.cmd_tasks.specs.declared.work.Searched.{Searched}
 use Rattle.cmd_tasks.specs.declared.work.Searched.TheVariants as r
 use Rattle.cmd_tasks.specs.declared.trace.Item.{Item}
 use Rattle.cmd_tasks.proofs.Listing.{map_of_map}
-use Rattle.cmd_tasks.proofs.Requests.{find_one_accepts, find_accepts, stopped_serves}
+use Rattle.cmd_tasks.proofs.Requests.{find_one_accepts, find_accepts, stopped_serves, answered}
 use Rattle.cmd_tasks.proofs.Fresh.{first_kept}
 
 -- what a search tells wherever it stands
@@ -69,12 +69,7 @@ page_told sort part rows xs reply are told =
     subst (λ (z : List Found). TellsListed (map (λ (x : Found). view part.projection x.doc) z) (state_after sort (paging part) z) reply) are
     (subst (λ (z : List Tree). TellsListed z (state_after sort (paging part) (map found_row rows)) reply) (sym (map_of_map found_row (λ (x : Found). view part.projection x.doc) rows)) told)
 
-module _ (base : Base) (coll : Name) (k : ℕ) (moment : ℤ) where
-  -- the reply is the command's answer, or memory was wanting
-  pub answered : (c : CommandTree) (sights : List Sight) (reply : Reply) (P : Type 0) → IsPartOf base coll k moment c sights → accepted sights ≡ 0 → (P → Answers base coll k moment c sights reply)
-      → P ⊎ (reply ≡ NoMemory 0) → Serves base coll k moment c sights reply
-  answered c sights reply P part none told h = ⊎_elim (λ p. inl (part, told p)) (λ e. inr (inr (inl part, e ∙ ap NoMemory (sym none)))) h
-
+module _ (base : Base) (coll : Name) (k : ℕ) where
   module _ (search : Search) (H' : List Entry) (earlier : List Sight) where
     abbrev f : FilterTree
     f = filter_tree search.wanted.filter
@@ -84,45 +79,45 @@ module _ (base : Base) (coll : Name) (k : ℕ) (moment : ℤ) where
 
     -- ---- findOne
 
-    module _ (p : Progress) (shows : Shows) (one : search.keep ≡ 1) (way : IsUnderWay base coll k moment (Selecting search p shows) earlier) where
+    module _ (p : Progress) (shows : Shows) (one : search.keep ≡ 1) (way : IsUnderWay base coll k (Selecting search p shows) earlier) where
       -- what the step of the search tells here
       pub select_seeks : (o : Searched) → SeeksOn base coll search p k H' o → Seeks base coll None search k H' earlier o
       select_seeks o h = h None earlier (subst (λ (n : ℕ). GoesOn base coll f (bound search.sort n) earlier) (sym one) way.0.1) way.1
 
-      pub select_more : (item : Item) (p' : Progress) → Seeks base coll None search k H' earlier (r.More item p') → IsUnderWay base coll k moment (Selecting search p' shows) (sight H' item ∷ earlier)
+      pub select_more : (item : Item) (p' : Progress) → Seeks base coll None search k H' earlier (r.More item p') → IsUnderWay base coll k (Selecting search p' shows) (sight H' item ∷ earlier)
       select_more item p' h = (((way.0.0, way.0.1, h.0), subst (λ (n : ℕ). GoesOn base coll f (bound search.sort n) (sight H' item ∷ earlier)) one h.2), h.1)
 
       select_whole : (item : Item) (p' : Progress) (reply : Reply) → Seeks base coll None search k H' earlier (r.Whole item p') → Finds (option_map (λ (v : Version). view shows v.doc) (first p'.kept.items)) reply
-          → Serves base coll k moment (find_one f search.sort shows) (sight H' item ∷ earlier) reply
-      select_whole item p' reply h finds =
+          → Serves base coll k (finds_one f search.sort shows) (sight H' item ∷ earlier) reply
+      select_whole item p' reply h told =
           let sights : List Sight = sight H' item ∷ earlier in
           let xs = in_order search.sort (shown base coll f sights) in
-          let part : IsPartOf base coll k moment (find_one f search.sort shows) sights = (way.0.0, way.0.1, h.0) in
+          let part : IsPartOf base coll k (finds_one f search.sort shows) sights = (way.0.0, way.0.1, h.0) in
           let is : option_map (λ (x : Found). view shows x.doc) (first xs) ≡ option_map (λ (v : Version). view shows v.doc) (first p'.kept.items) =
           ap (option_map (λ (x : Found). view shows x.doc)) (first_kept p'.kept.items xs (h.1.kept ∙ ap (λ (n : ℕ). take n xs) one)) ∙ shown_first shows (first p'.kept.items) in
           let ended = subst (λ (n : ℕ). IsEndedBy n sights) one h.2 in
-          answered (find_one f search.sort shows) sights reply _ part (find_one_accepts base coll k moment f search.sort shows sights part)
-          (λ t. (ended, inr (h.3, subst (λ (d : Option Tree). TellsFound d reply) (sym is) t))) finds
+          answered base coll k (finds_one f search.sort shows) sights reply _ part (find_one_accepts base coll k f search.sort shows sights part)
+          (λ t. (ended, inr (h.3, subst (λ (d : Option Tree). TellsFound d reply) (sym is) t))) told
 
       pub select_ended : (item : Item) (p' : Progress) (o : Moved) → Seeks base coll None search k H' earlier (r.Whole item p') → EndsSo item (Finds (option_map (λ (v : Version). view shows v.doc) (first p'.kept.items))) o
-          → Leads base coll k moment H' (Selecting search p shows) earlier o
+          → Leads base coll k H' (Selecting search p shows) earlier o
       select_ended item p' (m.Goes i w) h is = absurd is
-      select_ended item p' (m.Ends i reply) h is = subst (λ (z : Item). Serves base coll k moment (find_one f search.sort shows) (sight H' z ∷ earlier) reply) (sym is.0) (select_whole item p' reply h is.1)
+      select_ended item p' (m.Ends i reply) h is = subst (λ (z : Item). Serves base coll k (finds_one f search.sort shows) (sight H' z ∷ earlier) reply) (sym is.0) (select_whole item p' reply h is.1)
       select_ended item p' m.NoMemory h is = absurd is
 
-      pub select_stopped : (item : Item) (reply : Reply) → Seeks base coll None search k H' earlier (r.Stopped item reply) → Serves base coll k moment (find_one f search.sort shows) (sight H' item ∷ earlier) reply
+      pub select_stopped : (item : Item) (reply : Reply) → Seeks base coll None search k H' earlier (r.Stopped item reply) → Serves base coll k (finds_one f search.sort shows) (sight H' item ∷ earlier) reply
       select_stopped item reply h = ⊎_elim
-          (λ stops. stopped_serves base coll k moment (find_one f search.sort shows) tt earlier (sight H' item) stops.0 reply way.0 stops.1 stops.2)
+          (λ stops. stopped_serves base coll k (finds_one f search.sort shows) tt earlier (sight H' item) stops.0 reply way.0 stops.1 stops.2)
           (λ many.
-          let part : IsPartOf base coll k moment (find_one f search.sort shows) (sight H' item ∷ earlier) = (way.0.0, way.0.1, many.0) in
-          answered (find_one f search.sort shows) (sight H' item ∷ earlier) reply _ part (find_one_accepts base coll k moment f search.sort shows (sight H' item ∷ earlier) part) (λ t. (subst (λ (n : ℕ). IsEndedBy n (sight H' item ∷ earlier)) one many.1, inl (many.2, t))) many.3)
+          let part : IsPartOf base coll k (finds_one f search.sort shows) (sight H' item ∷ earlier) = (way.0.0, way.0.1, many.0) in
+          answered base coll k (finds_one f search.sort shows) (sight H' item ∷ earlier) reply _ part (find_one_accepts base coll k f search.sort shows (sight H' item ∷ earlier) part) (λ t. (subst (λ (n : ℕ). IsEndedBy n (sight H' item ∷ earlier)) one many.1, inl (many.2, t))) many.3)
           h
 
     -- ---- find
 
-    module _ (p : Progress) (part : Part) (keeps : search.keep ≡ keep_of (paging part)) (way : IsUnderWay base coll k moment (Listing search p part) earlier) where
-      abbrev asked_for : CommandTree
-      asked_for = find f search.sort part.projection (paging part)
+    module _ (p : Progress) (part : Part) (keeps : search.keep ≡ keep_of (paging part)) (way : IsUnderWay base coll k (Listing search p part) earlier) where
+      abbrev asked_for : Job
+      asked_for = finds f search.sort part.projection (paging part)
 
       abbrev from : Option Tree
       from = from_of (paging part)
@@ -130,29 +125,29 @@ module _ (base : Base) (coll : Name) (k : ℕ) (moment : ℤ) where
       pub list_seeks : (o : Searched) → SeeksOn base coll search p k H' o → Seeks base coll from search k H' earlier o
       list_seeks o h = h from earlier (subst (λ (n : ℕ). GoesOn base coll f (bound search.sort n) earlier) (sym keeps) way.0.1) way.1
 
-      pub list_more : (item : Item) (p' : Progress) → Seeks base coll from search k H' earlier (r.More item p') → IsUnderWay base coll k moment (Listing search p' part) (sight H' item ∷ earlier)
+      pub list_more : (item : Item) (p' : Progress) → Seeks base coll from search k H' earlier (r.More item p') → IsUnderWay base coll k (Listing search p' part) (sight H' item ∷ earlier)
       list_more item p' h = (((way.0.0, way.0.1, h.0), subst (λ (n : ℕ). GoesOn base coll f (bound search.sort n) (sight H' item ∷ earlier)) keeps h.2), h.1)
 
       list_whole : (item : Item) (p' : Progress) (reply : Reply) → Seeks base coll from search k H' earlier (r.Whole item p') → Lists search.sort part (drop part.skip p'.kept.items) reply
-          → Serves base coll k moment asked_for (sight H' item ∷ earlier) reply
+          → Serves base coll k asked_for (sight H' item ∷ earlier) reply
       list_whole item p' reply h lists =
           let sights : List Sight = sight H' item ∷ earlier in
           let xs = in_order search.sort (shown base coll f sights) in
-          let taken : IsPartOf base coll k moment asked_for sights = (way.0.0, way.0.1, h.0) in
+          let taken : IsPartOf base coll k asked_for sights = (way.0.0, way.0.1, h.0) in
           let rows = page_is (paging part) search.keep p'.kept.items xs keeps h.1.kept in
-          answered asked_for sights reply _ taken (find_accepts base coll k moment f search.sort part.projection (paging part) sights taken)
+          answered base coll k asked_for sights reply _ taken (find_accepts base coll k f search.sort part.projection (paging part) sights taken)
           (λ t. (subst (λ (n : ℕ). IsEndedBy n sights) keeps h.2, inr (h.3, page_told search.sort part (drop part.skip p'.kept.items) xs reply rows t))) lists
 
       pub list_ended : (item : Item) (p' : Progress) (o : Moved) → Seeks base coll from search k H' earlier (r.Whole item p') → EndsSo item (Lists search.sort part (drop part.skip p'.kept.items)) o
-          → Leads base coll k moment H' (Listing search p part) earlier o
+          → Leads base coll k H' (Listing search p part) earlier o
       list_ended item p' (m.Goes i w) h is = absurd is
-      list_ended item p' (m.Ends i reply) h is = subst (λ (z : Item). Serves base coll k moment asked_for (sight H' z ∷ earlier) reply) (sym is.0) (list_whole item p' reply h is.1)
+      list_ended item p' (m.Ends i reply) h is = subst (λ (z : Item). Serves base coll k asked_for (sight H' z ∷ earlier) reply) (sym is.0) (list_whole item p' reply h is.1)
       list_ended item p' m.NoMemory h is = absurd is
 
-      pub list_stopped : (item : Item) (reply : Reply) → Seeks base coll from search k H' earlier (r.Stopped item reply) → Serves base coll k moment asked_for (sight H' item ∷ earlier) reply
+      pub list_stopped : (item : Item) (reply : Reply) → Seeks base coll from search k H' earlier (r.Stopped item reply) → Serves base coll k asked_for (sight H' item ∷ earlier) reply
       list_stopped item reply h = ⊎_elim
-          (λ stops. stopped_serves base coll k moment asked_for tt earlier (sight H' item) stops.0 reply way.0 stops.1 stops.2)
+          (λ stops. stopped_serves base coll k asked_for tt earlier (sight H' item) stops.0 reply way.0 stops.1 stops.2)
           (λ many.
-          let taken : IsPartOf base coll k moment asked_for (sight H' item ∷ earlier) = (way.0.0, way.0.1, many.0) in
-          answered asked_for (sight H' item ∷ earlier) reply _ taken (find_accepts base coll k moment f search.sort part.projection (paging part) (sight H' item ∷ earlier) taken) (λ t. (subst (λ (n : ℕ). IsEndedBy n (sight H' item ∷ earlier)) keeps many.1, inl (many.2, t))) many.3)
+          let taken : IsPartOf base coll k asked_for (sight H' item ∷ earlier) = (way.0.0, way.0.1, many.0) in
+          answered base coll k asked_for (sight H' item ∷ earlier) reply _ taken (find_accepts base coll k f search.sort part.projection (paging part) (sight H' item ∷ earlier) taken) (λ t. (subst (λ (n : ℕ). IsEndedBy n (sight H' item ∷ earlier)) keeps many.1, inl (many.2, t))) many.3)
           h

@@ -18,8 +18,9 @@ use Rattle.cmd_tasks.specs.Many.{IsStand, IsStanding, pages_left, stand_left, tr
 use Rattle.cmd_tasks.specs.Going.{IsCounted, Meets, Settles, SettlesReady, waiting_left, unsettled_left}
 use Rattle.cmd_tasks.specs.declared.work.Stand.{Stand}
 use Rattle.cmd_tasks.specs.declared.work.Attempt.{Attempt}
-use Rattle.cmd_tasks.specs.declared.taking.Met.TheVariants as met
+use Rattle.cmd_tasks.specs.declared.meeting.Met.TheVariants as met
 use Rattle.cmd_tasks.specs.declared.taking.Settled.TheVariants as s
+use Rattle.cmd_tasks.proofs.Kept.{settled_modified}
 
 -- ---- the first that waits
 
@@ -56,7 +57,7 @@ abbrev pub without_first : Stand → Vec Version Global → Stand
 without_first stand left = record stand { queue = left }
 
 pub first_stands : (stand : Stand) (left : Vec Version Global) (v : Version) (st : Standing) (waiting : List Shown) (t : IsFirst left.items v waiting) → IsStanding stand st waiting → IsStanding (without_first stand left) st t.rest
-first_stands stand left v st waiting t h = record { from = h.from; is_whole = h.is_whole; queue = t.others; lost = h.lost; matched = h.matched; modified = h.modified; last = h.last }
+first_stands stand left v st waiting t h = record { from = h.from; is_whole = h.is_whole; queue = t.others; lost = h.lost; matched = h.matched; modified = h.modified; last = h.last; unput = h.unput }
 
 short_parts : (vs : List Version) (v : Version) → AreShort (vs ++ v ∷ []) → AreShort vs × IsShort (id_of v.doc)
 short_parts [] v h = (tt, h.0)
@@ -88,6 +89,7 @@ counted_stands stand new id changed st t rest same h n = record {
   matched = n.matched ∙ ap (λ (k : ℕ). k + 1) h.matched;
   modified = n.modified ∙ ap (λ (k : ℕ). k + changed) h.modified;
   last = n.last ∙ ap (λ (i : Tree). Some i) (sym same);
+  unput = h.unput;
 }
 
 pub counted_stand : (stand new : Stand) (id : Tree) (changed : ℕ) → stand.matched < 20 → changed ≤ 1 → IsStand stand → IsCounted stand id changed new → IsStand new
@@ -135,16 +137,6 @@ stops_full doing st full = go st.queue refl
     go : (q : List Shown) → st.queue ≡ q → settle doing st ≡ st
     go [] e = stops_empty doing st e
     go (t ∷ rest) e = stops_first doing st t rest e (and_left _ _ (le-ltb st.matched 20 full))
-
-plus_none : (n : ℕ) → n + 0 ≡ n
-plus_none n = omega arith
-
-settled_modified : (doing : Doing) (q : List Shown) (st : Standing) → (settled doing q st).modified ≡ st.modified
-settled_modified doing [] st = refl
-settled_modified doing (t ∷ rest) st = elim (goes doing t st) as (λ b. (settles_by doing t rest st b).modified ≡ st.modified) [
-  | true ↦ settled_modified doing rest (count t.x 0 rest st) ∙ plus_none st.modified
-  | false ↦ refl
-]
 
 -- ---- as far as it has come
 
@@ -264,7 +256,7 @@ module _ (doing : Doing) (begun stand : Stand) (h : Settling doing begun stand) 
       let r = h.reaches st stands first in
       let empty = none_waits stand.queue.items r.now.queue none r.stands.queue in
       subst (λ (z : Standing). Settles doing z (s.Untaken (without_first stand left))) (sym (stops_empty doing r.now empty) ∙ r.same)
-      (record { from = r.stands.from; is_whole = r.stands.is_whole; queue = ap (λ (l : List Version). map found_row (reverse l)) (still ∙ sym none) ∙ r.stands.queue; lost = r.stands.lost; matched = r.stands.matched; modified = r.stands.modified; last = r.stands.last }, r.first_time, inl empty)
+      (record { from = r.stands.from; is_whole = r.stands.is_whole; queue = ap (λ (l : List Version). map found_row (reverse l)) (still ∙ sym none) ∙ r.stands.queue; lost = r.stands.lost; matched = r.stands.matched; modified = r.stands.modified; last = r.stands.last; unput = r.stands.unput }, r.first_time, inl empty)
 
   pub empty_ready : (left : Vec Version Global) → stand.queue.items ≡ [] → left.items ≡ [] → SettlesReady begun (s.Untaken (without_first stand left))
   empty_ready left none still =

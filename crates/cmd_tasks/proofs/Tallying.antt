@@ -16,12 +16,13 @@ use Rattle.cmd_tasks.specs.Trace.{Sight, Found, now, shown_by}
 use Rattle.cmd_tasks.specs.Attempts.{IsOneOf}
 use Rattle.cmd_tasks.specs.Pages.{last_of}
 use Rattle.cmd_tasks.specs.Doing.{Doing, change_of}
-use Rattle.cmd_tasks.specs.Taking.{Shown, Standing, count, is_unchanged, settled, settle, shown_with, win, lose, shown_alone, list_on, replace, standing, turn}
-use Rattle.cmd_tasks.specs.Turns.{IsAlone, Follows}
+use Rattle.cmd_tasks.specs.Taking.{Shown, Standing, count, is_unchanged, settled, settle, shown_with, win, lose, shown_alone, list_on, replace, standing}
+use Rattle.cmd_tasks.specs.Turns.{IsAlone}
 use Rattle.cmd_tasks.specs.Tally.{Fate, changed, unchanged, passed, is_counted, is_changed, Taken, counted_of, changed_of, IsTouched, ShowsNow, IsVersion, Meets, listed}
 use Rattle.cmd_tasks.proofs.Covering.{and_parts, each_weaker}
 use Rattle.cmd_tasks.proofs.Ascent.{each_append}
-use Rattle.cmd_tasks.proofs.Stepping.{alone_is, IsPaged, IsRelooked, IsWritten, IsBeaten, steps}
+use Rattle.cmd_tasks.proofs.Stepping.{alone_is, IsPaged, IsRelooked, IsWritten, IsBeaten, IsPutting, steps}
+use Rattle.cmd_tasks.proofs.Accepted.{AreSteps}
 
 -- ---- lists
 
@@ -254,7 +255,7 @@ module _ (base : State) (coll : Name) (k : ℕ) (f : FilterTree) (doing : Doing)
       let now_is = tallied_more s earlier st p.lists t in
       let first = first_of here st now_is p.first p.rest p.queue in
       let won : Standing = win (p.first ∷ p.rest) st in
-      subst (IsTallied here) (sym (p.new_is ∙ ap (λ qs. settle doing (win qs st)) p.queue))
+      subst (IsTallied here) (sym p.new_is)
       (settle_tallied here won refl (tallied_changed here st now_is first.0 p.rest first.1 won p.first.x.id first.2.same_id refl refl refl refl refl p.few
       (p.first.x, first.2.version, (p.change, p.made, (s, (zero, refl), p.won)))))
 
@@ -264,7 +265,7 @@ module _ (base : State) (coll : Name) (k : ℕ) (f : FilterTree) (doing : Doing)
       let now_is = tallied_more s earlier st p.lists t in
       let first = first_of here st now_is p.first p.rest p.queue in
       subst (IsTallied here) (sym p.new_is)
-      (tallied_still here st now_is first.0 p.rest first.1 (lose p.loss st) p.first p.queue refl refl refl first.2
+      (tallied_still here st now_is first.0 p.rest first.1 (lose p.loss (p.first ∷ p.rest) st) p.first p.queue refl refl refl first.2
       (λ again. ⊎_elim (λ (e : p.first ≡ first.0). subst (λ z. IsTouched coll k here z) e (s, (zero, refl), p.lost.between)) (λ touched. touched) first.2.shown))
 
   relooked : (s : Sight) (earlier : List Sight) (st new : Standing) → IsRelooked base coll k f doing s st new → IsTallied earlier st → IsTallied (s ∷ earlier) new
@@ -298,17 +299,37 @@ module _ (base : State) (coll : Name) (k : ℕ) (f : FilterTree) (doing : Doing)
           (record { same_id = only.0 ∙ first.2.same_id; version = inr (shows_so (x ∷ []) (e ∙ ap (λ ys. x ∷ ys) only.1)); shown = inr (touched_more s earlier first.0 (first.3 p.again)) })
           (λ a. never a))
 
-  module _ (from : Option Tree) where
-    -- the sights so far follow one another
-    abbrev pub AreSteps : List Sight → Type 0
-    AreSteps [] = ⊤
-    AreSteps (s ∷ earlier) = AreSteps earlier × Follows base coll k f (turn doing (standing base coll f doing from earlier)) s
+  putting : (up : Option (Result Tree UpdateFault)) (s : Sight) (earlier : List Sight) (st new : Standing) → IsPutting base coll k f doing up s st new → IsTallied earlier st → IsTallied (s ∷ earlier) new
+  putting up s earlier st new p t =
+      let here = s ∷ earlier in
+      let now_is = tallied_more s earlier st p.lists t in
+      subst (IsTallied here) (sym p.new_is) (record {
+        taken = now_is.taken;
+        waiting = now_is.waiting;
+        all = now_is.all;
+        each = now_is.each;
+        waits = subst (λ qs. Waits here st.again qs now_is.waiting) p.to_put.at_end.queue now_is.waits;
+        matched = now_is.matched;
+        modified = now_is.modified;
+        last = now_is.last;
+        few = now_is.few;
+      })
 
+  module _ (up : Option (Result Tree UpdateFault)) (from : Option Tree) where
     -- each document that a page showed is counted, or passed over, or waits
-    pub tallied : (sights : List Sight) → AreSteps sights → IsTallied sights (standing base coll f doing from sights)
+    pub tallied : (sights : List Sight) → AreSteps base coll k f doing up from sights → IsTallied sights (standing base coll f doing from sights)
     tallied [] h = record { taken = []; waiting = []; all = refl; each = tt; waits = refl; matched = refl; modified = refl; last = refl; few = omega arith }
     tallied (s ∷ earlier) h =
         let st = standing base coll f doing from earlier in
         let new = standing base coll f doing from (s ∷ earlier) in
         let t = tallied earlier h.0 in
-        ⊎_elim (λ p. paged s earlier st new p t) (λ more. ⊎_elim (λ p. relooked s earlier st new p t) (λ more. ⊎_elim (λ p. written s earlier st new p t) (λ p. beaten s earlier st new p t) more) more) (steps base coll k f doing s st h.1)
+        ⊎_elim
+        (λ p. paged s earlier st new p t)
+        (λ more. ⊎_elim
+        (λ p. relooked s earlier st new p t)
+        (λ more. ⊎_elim
+        (λ p. written s earlier st new p t)
+        (λ more. ⊎_elim (λ p. beaten s earlier st new p t) (λ p. putting up s earlier st new p t) more)
+        more)
+        more)
+        (steps base coll k f doing up s st h.1)

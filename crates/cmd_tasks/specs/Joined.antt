@@ -98,7 +98,7 @@ module _ (base : State) (H : List Entry) (coll : Name) (f : FilterTree) where
   module _ (shows : Shows) where
     -- the page was served, as a find without a sort
     abbrev pub IsPage : Page → Type 0
-    IsPage p = IsServed base H coll p.session p.moment (find f [] shows (paging_of p)) p.trace p.reply × Lists p.reply
+    IsPage p = IsServed base H coll p.session p.moment [] (find f [] shows (paging_of p)) p.trace p.reply × Lists p.reply
 
     -- the further pages: each goes on with the state of the page before it, and the last one gave none
     abbrev pub GoOn : List Page → Option (List ℕ) → Type 0

@@ -1,5 +1,5 @@
 -- Commands that take many documents: what their states keep by themselves, and what they keep of the sights.
-use Rattle.std.specs.Prelude.{◌≡◌, ℕ, ◌+◌, ◌-◌, ◌*◌, ◌<◌, ◌≤◌, List, [], ◌∷◌, length, map, reverse, Bool, true, false, Option, Some, None, ⊤, Ok}
+use Rattle.std.specs.Prelude.{◌≡◌, ℕ, ◌+◌, ◌-◌, ◌*◌, ◌<◌, ◌≤◌, List, [], ◌∷◌, length, map, reverse, Bool, true, false, is_none, Option, Some, None, ⊤, Result, Ok}
 use Rattle.std.specs.List.{AllByRecursion, list_any}
 use Rattle.std.specs.Ordering.{is_lt}
 use Rattle.json_tree.specs.Tree.{Tree}
@@ -8,11 +8,12 @@ use Rattle.col_keeper.specs.Tables.{Name, IsShort}
 use Rattle.filter_tree.specs.Filters.{FilterTree}
 use Rattle.filter_tree.specs.View.{filter_tree}
 use Rattle.view_sort.specs.declared.page.PageState.{PageState}
+use Rattle.update_ops.specs.declared.fault.UpdateFault.{UpdateFault}
 use Rattle.store_core.specs.State.{State as Base, version}
 use Rattle.store_core.specs.Journal.{FitsId, new_doc}
 use Rattle.store_core.specs.Numbers.{touches}
 use Rattle.store_core.specs.Tries.{IsRead}
-use Rattle.cmd_grammar.specs.Commands.{CommandTree, update_many, delete_many, IsAskablePage}
+use Rattle.cmd_grammar.specs.Commands.{IsAskablePage}
 use Rattle.cmd_tasks.specs.Rank.{rank_of}
 use Rattle.cmd_tasks.specs.Trace.{Sight, now, up_to}
 use Rattle.cmd_tasks.specs.Searches.{stored}
@@ -21,36 +22,45 @@ use Rattle.cmd_tasks.specs.Pages.{found_row}
 use Rattle.cmd_tasks.specs.Wanted.{IsWanted}
 use Rattle.cmd_tasks.specs.Looking.{AreShort}
 use Rattle.cmd_tasks.specs.Attempts.{IsOneOf}
-use Rattle.cmd_tasks.specs.Doing.{Doing, updates, deletes, change_of}
-use Rattle.cmd_tasks.specs.Taking.{Shown, Standing}
+use Rattle.cmd_tasks.specs.Doing.{Making, updates, replaces, Doing, makes, deletes, change_of}
+use Rattle.cmd_tasks.specs.Jobs.{Form, by_counts, shows, Job, changes_many}
+use Rattle.cmd_tasks.specs.Taking.{Shown, Standing, not_put}
+use Rattle.cmd_tasks.specs.Turns.{upsert_for}
+use Rattle.cmd_tasks.specs.declared.work.Making as declared_making
+use Rattle.cmd_tasks.specs.declared.work.Making.TheVariants as mk
 use Rattle.cmd_tasks.specs.declared.work.Doing as declared_doing
 use Rattle.cmd_tasks.specs.declared.work.Doing.TheVariants as d
+use Rattle.cmd_tasks.specs.declared.work.Form as declared_form
+use Rattle.cmd_tasks.specs.declared.work.Form.TheVariants as fm
 use Rattle.cmd_tasks.specs.declared.work.Many as declared_many
 use Rattle.cmd_tasks.specs.declared.work.Stand.{Stand}
 use Rattle.cmd_tasks.specs.declared.work.Attempt.{Attempt}
 
+abbrev pub making_of : declared_making.Making → Making
+making_of (mk.Updates u moment) = updates u moment
+making_of (mk.Replacement document) = replaces document
+
 abbrev pub doing_of : declared_doing.Doing → Doing
-doing_of (d.Updates u moment) = updates u moment
+doing_of (d.Makes making up) = makes (making_of making) up
 doing_of d.Deletes = deletes
 
--- the command that many are taken for
-abbrev pub taking_for : FilterTree → Option PageState → declared_doing.Doing → CommandTree
-taking_for f page (d.Updates u moment) = update_many f u page
-taking_for f page d.Deletes = delete_many f
+abbrev pub form_of : declared_form.Form → Form
+form_of fm.ByCounts = by_counts
+form_of (fm.Shows projection after) = shows projection after
 
-abbrev pub taking : declared_many.Many → CommandTree
-taking many = taking_for (filter_tree many.wanted.filter) many.page.value many.doing
+-- the request that many are taken for
+abbrev pub taking : declared_many.Many → Job
+taking many = changes_many (filter_tree many.wanted.filter) (doing_of many.doing) many.page.value
 
--- a deletion has no page
-abbrev pub MayPage : declared_doing.Doing → Option PageState → Type 0
-MayPage (d.Updates u moment) page = ⊤
-MayPage d.Deletes page = page ≡ None
+-- what is inserted where none matches
+abbrev pub put_for : declared_many.Many → Option (Result Tree UpdateFault)
+put_for many = upsert_for (filter_tree many.wanted.filter) (doing_of many.doing) many.page.value
 
 pub record IsMany (many : declared_many.Many) : Type 0 where
   pub wanted : IsWanted many.wanted
   pub page : IsAskablePage many.page.value
   pub given : many.given ≡ given_of many.page.value
-  pub may : MayPage many.doing many.page.value
+  pub is_first : many.is_first ≡ is_none many.page.value
 
 -- nothing is listed yet; the first page begins there
 pub record IsStart (from : Option Tree) (stand : Stand) : Type 0 where
@@ -119,6 +129,7 @@ pub record IsStanding (stand : Stand) (st : Standing) (waiting : List Shown) : T
   pub matched : stand.matched ≡ st.matched
   pub modified : stand.modified ≡ st.modified
   pub last : stand.last ≡ st.last
+  pub unput : st.put ≡ not_put
 
 -- the first one is attempted next, by this change
 pub record IsAttempted (doing : Doing) (stand : Stand) (attempt : Attempt) (st : Standing) : Type 0 where

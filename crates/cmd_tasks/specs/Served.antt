@@ -1,38 +1,37 @@
 -- Which trace and which reply of a request belong together. Sights stand with the newest first.
-use Rattle.std.specs.Prelude.{◌≡◌, ◌≢◌, ℕ, ℤ, ◌+◌, ◌-◌, ◌^◌, ◌<◌, ◌⊎◌, List, [], ◌∷◌, ◌++◌, length, map, reverse, min, nat_lt, true, false, Option, Some, None, IsSome, MatchOption, Result, Ok, Err, ⊤}
+use Rattle.std.specs.Prelude.{◌≡◌, ◌≢◌, ℕ, ℤ, ◌+◌, ◌-◌, ◌^◌, ◌<◌, ◌≤◌, ◌⊎◌, List, [], ◌∷◌, ◌++◌, length, map, reverse, min, nat_lt, Bool, true, false, ◌&&◌, Option, Some, None, IsSome, MatchOption, Ok, ⊤, if◌then◌else◌}
 use Rattle.std.specs.Option.{option_map}
 use Rattle.json_tree.specs.Tree.{Tree}
 use Rattle.json_tree.specs.View.{tree}
 use Rattle.shred_cols.specs.Row.{id_of}
 use Rattle.shred_cols.specs.Rows.{first}
-use Rattle.col_keeper.specs.Tables.{Name}
+use Rattle.col_keeper.specs.Tables.{Name, names_of}
 use Rattle.reply_env.specs.Messages as errors
-use Rattle.reply_env.specs.Reply.{IsRefusal, IsRefusalAfter}
+use Rattle.reply_env.specs.Reply.{IsRefusal, IsRefusalOf, TellsInserted}
 use Rattle.reply_env.specs.declared.reply.ErrorItem.{ErrorItem}
 use Rattle.reply_env.specs.declared.update_errors.Loss.{Loss}
 use Rattle.reply_env.specs.declared.reply.SoFar.{SoFar}
 use Rattle.reply_env.specs.declared.reply.Reply.{Reply}
-use Rattle.reply_env.specs.declared.reply.Reply.TheVariants.{Inserted, Found as FoundOne, Listed, Counted, Updated, UpdatedMany, Deleted, DeletedMany, Refused, NoMemory}
-use Rattle.store_core.specs.State.{State, IsGone, number_at}
+use Rattle.reply_env.specs.declared.reply.Reply.TheVariants.{Found as FoundOne, Listed, Counted, Done, Names, NoMemory}
+use Rattle.store_core.specs.State.{State, Lives, IsGone}
 use Rattle.store_core.specs.declared.entry.Entry.{Entry}
-use Rattle.store_core.specs.declared.entry.Entry.TheVariants.{Failed}
-use Rattle.store_core.specs.declared.entry.Change.TheVariants.{Insert, Update, Delete}
-use Rattle.update_ops.specs.Clauses.{Clause}
-use Rattle.update_ops.specs.Apply.{apply}
-use Rattle.update_ops.specs.declared.fault.UpdateFault.{UpdateFault}
+use Rattle.store_core.specs.declared.entry.Entry.TheVariants.{Created, Dropped, Failed}
+use Rattle.store_core.specs.declared.entry.Change.{Change}
 use Rattle.filter_tree.specs.Filters.{FilterTree}
 use Rattle.view_sort.specs.Sort.{SortKeys}
 use Rattle.view_sort.specs.View.{view}
 use Rattle.view_sort.specs.declared.page.PageState.{PageState}
-use Rattle.cmd_grammar.specs.Refused.{update_error}
-use Rattle.cmd_grammar.specs.Commands.{CommandTree, insert_one, find_one, find, count_documents, update_one, update_many, delete_one, delete_many}
+use Rattle.cmd_grammar.specs.Commands.{CommandTree}
 use Rattle.cmd_tasks.specs.Trace.{Sight, sight, Found, now, shown, GoesOn, IsLook, next_from, IsListed}
-use Rattle.cmd_tasks.specs.Searches.{bound, is_too_many, in_order, first_of}
+use Rattle.cmd_tasks.specs.Searches.{bound, is_too_many, is_whole, in_order, first_of}
 use Rattle.cmd_tasks.specs.Part.{from_of, keep_of, part_of, state_after}
-use Rattle.cmd_tasks.specs.Attempts.{WroteChange, IsAttempt}
-use Rattle.cmd_tasks.specs.Doing.{updates, deletes}
-use Rattle.cmd_tasks.specs.Taking.{Standing, standing, turn}
-use Rattle.cmd_tasks.specs.Turns.{IsOn, IsWrite, MarksTurn, Follows, so_far_of, Ends}
+use Rattle.cmd_tasks.specs.Attempts.{IsAttempt}
+use Rattle.cmd_tasks.specs.Doing.{Doing, change_of, upsert_of}
+use Rattle.cmd_tasks.specs.Jobs.{Job, Form, inserts, finds_one, finds, counts, changes_one, changes_many, creates, drops, names, job_of}
+use Rattle.cmd_tasks.specs.Insertions.{IsInserted, IsTaken, IsInsertion, inserted, doubles, next_document, TellsInsertions}
+use Rattle.cmd_tasks.specs.Outcomes.{Outcome, changed, put, Tells, TellsUnwritten, TellsNone, ready}
+use Rattle.cmd_tasks.specs.Taking.{Standing, standing, Turn, turn}
+use Rattle.cmd_tasks.specs.Turns.{IsOn, IsWrite, MarksTurn, Follows, so_far_of, upsert_for, Ends}
 use Rattle.cmd_tasks.specs.declared.trace.Item.{Item}
 use Rattle.cmd_tasks.specs.declared.trace.Item.TheVariants.{Looked, Wrote, Lost, Faulted}
 
@@ -51,55 +50,17 @@ accepted (s ∷ earlier) = one_if_wrote s.item + accepted earlier
 abbrev pub counted : ℕ → Reply
 counted n = Counted (min n 1000) (nat_lt 1000 n)
 
--- the reply tells that this document was inserted
-abbrev pub TellsInserted : Tree → Reply → Type 0
-TellsInserted id (Inserted ids) = ids.items ≡ id ∷ []
-TellsInserted id (FoundOne view) = ⊥
-TellsInserted id (Listed views state) = ⊥
-TellsInserted id (Counted count more) = ⊥
-TellsInserted id (Updated matched modified) = ⊥
-TellsInserted id (UpdatedMany matched modified state) = ⊥
-TellsInserted id (Deleted deleted) = ⊥
-TellsInserted id (DeletedMany deleted more) = ⊥
-TellsInserted id (Refused errors kept) = ⊥
-TellsInserted id (NoMemory n) = ⊥
-
 -- the reply shows this document, or none
 abbrev pub TellsFound : Option Tree → Reply → Type 0
-TellsFound d (Inserted ids) = ⊥
 TellsFound d (FoundOne view) = option_map tree view ≡ d
-TellsFound d (Listed views state) = ⊥
-TellsFound d (Counted count more) = ⊥
-TellsFound d (Updated matched modified) = ⊥
-TellsFound d (UpdatedMany matched modified state) = ⊥
-TellsFound d (Deleted deleted) = ⊥
-TellsFound d (DeletedMany deleted more) = ⊥
-TellsFound d (Refused errors kept) = ⊥
-TellsFound d (NoMemory n) = ⊥
+TellsFound d reply = ⊥
 
 -- the reply shows these documents, and this page state or none
 abbrev pub TellsListed : List Tree → Option (List ℕ) → Reply → Type 0
-TellsListed ds next (Inserted ids) = ⊥
-TellsListed ds next (FoundOne view) = ⊥
 TellsListed ds next (Listed views state) = (map tree views.items ≡ ds) × (state ≡ next)
-TellsListed ds next (Counted count more) = ⊥
-TellsListed ds next (Updated matched modified) = ⊥
-TellsListed ds next (UpdatedMany matched modified state) = ⊥
-TellsListed ds next (Deleted deleted) = ⊥
-TellsListed ds next (DeletedMany deleted more) = ⊥
-TellsListed ds next (Refused errors kept) = ⊥
-TellsListed ds next (NoMemory n) = ⊥
+TellsListed ds next reply = ⊥
 
--- ---- an update: rounds, of which each has looks and then an attempt
-
--- the update makes another document of this one
-abbrev pub MakesAnother : List Clause → ℤ → Tree → Tree → Type 0
-MakesAnother u moment d new = (apply u d moment false ≡ Ok new) × (new ≢ d)
-
--- the reply where no write is needed: the update leaves this document as it is, or is refused on it
-abbrev pub TellsUnwritten : Result Tree UpdateFault → Tree → Reply → Type 0
-TellsUnwritten (Ok new) d reply = (new ≡ d) × (reply ≡ Updated 1 0)
-TellsUnwritten (Err fault) d reply = IsRefusal (update_error fault) reply
+-- ---- a change of one document: rounds, of which each has looks and then an attempt
 
 -- the lost attempts, the newest first
 abbrev pub lost_by : Item → List Loss
@@ -123,15 +84,39 @@ abbrev pub round : List Sight → List Sight
 round [] = []
 round (s ∷ earlier) = round_with s.item s (round earlier)
 
-module _ (base : State) (coll : Name) (k : ℕ) where
-  -- An insertion: the id isn't there and the document is written by this session, or its id is there
-  pub record IsInserted (d : Tree) (s : Sight) : Type 0 where
-    pub absent : number_at (now base coll s) coll (id_of d) ≡ None
-    pub wrote : WroteChange base coll k (id_of d) (Insert d) None s
+-- ---- commands on collections
 
-  pub record IsTaken (d : Tree) (tx : ℕ) (s : Sight) : Type 0 where
-    pub item : s.item ≡ Lost (length s.past) 0 (Some tx)
-    pub there : number_at (now base coll s) coll (id_of d) ≡ Some tx
+-- the item is a look at nothing, of no interval
+abbrev pub IsMark : Item → Type 0
+IsMark (Looked at after up_to shown) = (after ≡ None) × (up_to ≡ None) × (shown.items ≡ [])
+IsMark (Wrote at) = ⊥
+IsMark (Lost at read found) = ⊥
+IsMark (Faulted at before count) = ⊥
+
+-- the reply names these collections
+abbrev pub TellsNames : List Name → Reply → Type 0
+TellsNames ns (Names told) = told.items ≡ ns
+TellsNames ns reply = ⊥
+
+module _ (base : State) (coll : Name) (k : ℕ) where
+  -- the collection was made by this session; or it lives, or is one more than may live, and nothing was done
+  abbrev pub IsMade : Sight → Type 0
+  IsMade s = (s.item ≡ Wrote (length s.past)) × (s.entry ≡ Some (Created k coll))
+
+  abbrev pub IsThere : Sight → Type 0
+  IsThere s = IsMark s.item × Lives coll (now base coll s)
+
+  abbrev pub IsOneTooMany : Sight → Type 0
+  IsOneTooMany s = IsMark s.item × IsGone coll (now base coll s) × (100 ≤ length (now base coll s).collections)
+
+  -- it was deleted by this session; or it doesn't live, and nothing was done
+  abbrev pub IsDropped : Sight → Type 0
+  IsDropped s = (s.item ≡ Wrote (length s.past)) × (s.entry ≡ Some (Dropped k coll))
+
+  abbrev pub IsAbsent : Sight → Type 0
+  IsAbsent s = IsMark s.item × IsGone coll (now base coll s)
+
+  -- ---- searches
 
   -- the document that the present round has chosen: the first of what matches, in the order of the sort
   abbrev pub chosen : FilterTree → SortKeys → List Sight → Option Found
@@ -143,6 +128,75 @@ module _ (base : State) (coll : Name) (k : ℕ) where
       IsListed base coll f (bound sort keep) looks
       × (((is_too_many sort (shown base coll f looks) ≡ true) × IsRefusal errors.too_many_to_sort reply)
       ⊎ ((is_too_many sort (shown base coll f looks) ≡ false) × Told (in_order sort (shown base coll f looks))))
+
+  -- ---- one document is changed
+
+  module _ (f : FilterTree) (sort : SortKeys) (doing : Doing) where
+    -- the document that is to be inserted next: the present round came to the end and found none
+    abbrev pub insertion : List Sight → Option Tree
+    insertion sights = if is_whole (round sights) && nat_lt (length (shown base coll f (round sights))) 1 then ready (upsert_of f doing) else None
+
+    -- the document that the newest sight is the insertion of
+    abbrev pub put_last : List Sight → Option Tree
+    put_last [] = None
+    put_last (s ∷ earlier) = insertion earlier
+
+    -- the change of the document that was chosen
+    abbrev pub HasChange : Found → (Change → Type 0) → Type 0
+    HasChange x P = (change : Change) × (change_of doing x.doc ≡ Ok (Some change)) × P change
+
+    abbrev pub IsOpenOne : List Sight → Type 0
+    IsOpenOne sights =
+        (accepted sights ≡ 0) × (length (losses sights) < 4) × (put_last sights ≡ None)
+        × MatchOption (chosen f sort sights) (GoesOn base coll f (bound sort 1) (round sights) ⊎ IsSome (insertion sights)) (λ x. HasChange x (λ change. ⊤))
+
+    abbrev pub NextOne : List Sight → Sight → Type 0
+    NextOne sights s =
+        MatchOption (chosen f sort sights)
+        (MatchOption (insertion sights) (IsLook base coll f (next_from None (round sights)) s) (λ d. IsInsertion base coll k d s))
+        (λ x. HasChange x (λ change. IsAttempt base coll k f change (round sights) x s))
+
+    abbrev pub MarksOne : List Sight → Option Tree → Option Tree → Type 0
+    MarksOne sights after up =
+        MatchOption (chosen f sort sights)
+        (MatchOption (insertion sights) ((after ≡ next_from None (round sights)) × (up ≡ None)) (λ d. (after ≡ Some (id_of d)) × (up ≡ Some (id_of d))))
+        (λ x. (after ≡ Some x.id) × (up ≡ Some x.id))
+
+    module _ (form : Form) where
+      -- the newest sight is the write of the change, and the reply tells it
+      abbrev pub TellsWon : List Sight → Reply → Type 0
+      TellsWon [] reply = ⊥
+      TellsWon (s ∷ earlier) reply =
+          (one_if_wrote s.item ≡ 1) × MatchOption (chosen f sort earlier) ⊥ (λ x. HasChange x (λ change. Tells doing form (changed change x.doc) reply))
+
+      -- the newest sight is the insertion of this document, and the reply tells it, or that its id is there
+      abbrev pub TellsPut : Tree → List Sight → Reply → Type 0
+      TellsPut d [] reply = ⊥
+      TellsPut d (s ∷ earlier) reply =
+          (IsInserted base coll k d s × Tells doing form (put d) reply)
+          ⊎ ((tx : ℕ) × IsTaken base coll k d tx s × IsRefusal (errors.already_exists (id_of d) tx) reply)
+
+      -- the reply to the rounds: a change was written, or four were lost, or no write is needed
+      abbrev pub AnswersRounds : List Sight → Reply → Type 0
+      AnswersRounds sights reply =
+          TellsWon sights reply
+          ⊎ ((length (losses sights) ≡ 4) × IsRefusal (errors.lost_writes (reverse (losses sights))) reply)
+          ⊎ ((accepted sights ≡ 0) × (length (losses sights) < 4)
+          × IsFound f sort 1 (round sights) (λ xs. MatchOption (first xs) (TellsNone f doing form reply) (λ x. TellsUnwritten doing form x.doc reply)) reply)
+
+      abbrev pub AnswersOne : List Sight → Reply → Type 0
+      AnswersOne sights reply = MatchOption (put_last sights) (AnswersRounds sights reply) (λ d. TellsPut d sights reply)
+
+  -- ---- many are
+
+  -- where the command stands
+  abbrev pub many_standing : FilterTree → Doing → Option PageState → List Sight → Standing
+  many_standing f doing page sights = standing base coll f doing (option_map (λ p. p.last) page) sights
+
+  abbrev pub many_turn : FilterTree → Doing → Option PageState → List Sight → Turn
+  many_turn f doing page sights = turn (upsert_for f doing page) doing (many_standing f doing page sights)
+
+  -- ---- errors that stop a request
 
   -- in the place of a write, no version number is left; or else the collection doesn't live
   abbrev pub IsMarked : Type 0 → Sight → ErrorItem → Type 0
@@ -158,129 +212,109 @@ module _ (base : State) (coll : Name) (k : ℕ) where
   Stops marks to_write (Faulted at before count) s error =
       (s.entry ≡ Some (Failed k before count)) × (error ≡ errors.store_fault before count)
 
-  module _ (moment : ℤ) where
-    -- where the commands stand that take many documents
-    abbrev pub update_standing : FilterTree → List Clause → Option PageState → List Sight → Standing
-    update_standing f u page sights = standing base coll f (updates u moment) (option_map (λ p. p.last) page) sights
+  -- the errors that come before it
+  abbrev pub errors_before : Job → List Sight → List ErrorItem
+  errors_before (inserts ds ordered) sights = doubles ds sights
+  errors_before job sights = []
 
-    abbrev pub delete_standing : FilterTree → List Sight → Standing
-    delete_standing f sights = standing base coll f deletes None sights
+  -- what a reply tells of the writes before an error; jobs that write at most once end with it
+  abbrev pub TellsBefore : Job → List Sight → Option SoFar → Type 0
+  TellsBefore (inserts ds ordered) sights so_far = TellsInserted (inserted ds sights) so_far
+  TellsBefore (changes_many f doing page) sights so_far = so_far ≡ so_far_of doing (many_standing f doing page sights)
+  TellsBefore job sights so_far = so_far ≡ None
 
-    -- what their accepted writes did before an error; the other commands end with their first
-    abbrev pub done_by : CommandTree → List Sight → Option SoFar
-    done_by (insert_one d) sights = None
-    done_by (find_one f sort shows) sights = None
-    done_by (find f sort shows p) sights = None
-    done_by (count_documents f) sights = None
-    done_by (update_one f u sort) sights = None
-    done_by (update_many f u page) sights = so_far_of (updates u moment) (update_standing f u page sights)
-    done_by (delete_one f sort) sights = None
-    done_by (delete_many f) sights = so_far_of deletes (delete_standing f sights)
+  -- a write of a document comes next
+  abbrev pub IsToWrite : Job → List Sight → Type 0
+  IsToWrite (inserts ds ordered) sights = ⊤
+  IsToWrite (changes_one f sort doing form) sights = IsSome (chosen f sort sights) ⊎ IsSome (insertion f sort doing sights)
+  IsToWrite (changes_many f doing page) sights = IsWrite (many_turn f doing page sights)
+  IsToWrite job sights = ⊥
 
-    -- a write of a document comes next
-    abbrev pub IsToWrite : CommandTree → List Sight → Type 0
-    IsToWrite (insert_one d) sights = ⊤
-    IsToWrite (find_one f sort shows) sights = ⊥
-    IsToWrite (find f sort shows p) sights = ⊥
-    IsToWrite (count_documents f) sights = ⊥
-    IsToWrite (update_one f u sort) sights = IsSome (chosen f sort sights)
-    IsToWrite (update_many f u page) sights = IsWrite (turn (updates u moment) (update_standing f u page sights))
-    IsToWrite (delete_one f sort) sights = IsSome (chosen f sort sights)
-    IsToWrite (delete_many f) sights = IsWrite (turn deletes (delete_standing f sights))
+  -- the interval of a look at a point where there is nothing to look at or to write
+  abbrev pub Marks : Job → List Sight → Option Tree → Option Tree → Type 0
+  Marks (inserts ds ordered) sights after up = MatchOption (next_document ds ordered sights) ⊥ (λ d. (after ≡ Some (id_of d)) × (up ≡ Some (id_of d)))
+  Marks (finds_one f sort shows) sights after up = (after ≡ next_from None sights) × (up ≡ None)
+  Marks (finds f sort shows p) sights after up = (after ≡ next_from (from_of p) sights) × (up ≡ None)
+  Marks (counts f) sights after up = (after ≡ next_from None sights) × (up ≡ None)
+  Marks (changes_one f sort doing form) sights after up = MarksOne f sort doing sights after up
+  Marks (changes_many f doing page) sights after up = MarksTurn (many_turn f doing page sights) after up
+  Marks creates sights after up = ⊥
+  Marks drops sights after up = ⊥
+  Marks names sights after up = ⊥
 
-    -- the interval of a look at a point where there is nothing to look at or to write
-    abbrev pub Marks : CommandTree → List Sight → Option Tree → Option Tree → Type 0
-    Marks (insert_one d) sights after up = (after ≡ Some (id_of d)) × (up ≡ Some (id_of d))
-    Marks (find_one f sort shows) sights after up = (after ≡ next_from None sights) × (up ≡ None)
-    Marks (find f sort shows p) sights after up = (after ≡ next_from (from_of p) sights) × (up ≡ None)
-    Marks (count_documents f) sights after up = (after ≡ next_from None sights) × (up ≡ None)
-    Marks (update_one f u sort) sights after up =
-        MatchOption (chosen f sort sights) ((after ≡ next_from None (round sights)) × (up ≡ None)) (λ x. (after ≡ Some x.id) × (up ≡ Some x.id))
-    Marks (update_many f u page) sights after up = MarksTurn (turn (updates u moment) (update_standing f u page sights)) after up
-    Marks (delete_one f sort) sights after up =
-        MatchOption (chosen f sort sights) ((after ≡ next_from None (round sights)) × (up ≡ None)) (λ x. (after ≡ Some x.id) × (up ≡ Some x.id))
-    Marks (delete_many f) sights after up = MarksTurn (turn deletes (delete_standing f sights)) after up
+  -- ---- requests
 
-    -- The request is not answered yet by the sights so far
-    abbrev pub IsOpen : CommandTree → List Sight → Type 0
-    IsOpen (insert_one d) sights = sights ≡ []
-    IsOpen (find_one f sort shows) sights = GoesOn base coll f (bound sort 1) sights
-    IsOpen (find f sort shows p) sights = GoesOn base coll f (bound sort (keep_of p)) sights
-    IsOpen (count_documents f) sights = GoesOn base coll f 1001 sights
-    IsOpen (update_one f u sort) sights =
-        (accepted sights ≡ 0) × (length (losses sights) < 4)
-        × MatchOption (chosen f sort sights) (GoesOn base coll f (bound sort 1) (round sights)) (λ x. (new : Tree) × MakesAnother u moment x.doc new)
-    IsOpen (update_many f u page) sights = IsOn (turn (updates u moment) (update_standing f u page sights))
-    IsOpen (delete_one f sort) sights =
-        (accepted sights ≡ 0) × (length (losses sights) < 4)
-        × MatchOption (chosen f sort sights) (GoesOn base coll f (bound sort 1) (round sights)) (λ x. ⊤)
-    IsOpen (delete_many f) sights = IsOn (turn deletes (delete_standing f sights))
+  -- The request is not answered yet by the sights so far
+  abbrev pub IsOpen : Job → List Sight → Type 0
+  IsOpen (inserts ds ordered) sights = IsSome (next_document ds ordered sights)
+  IsOpen (finds_one f sort shows) sights = GoesOn base coll f (bound sort 1) sights
+  IsOpen (finds f sort shows p) sights = GoesOn base coll f (bound sort (keep_of p)) sights
+  IsOpen (counts f) sights = GoesOn base coll f 1001 sights
+  IsOpen (changes_one f sort doing form) sights = IsOpenOne f sort doing sights
+  IsOpen (changes_many f doing page) sights = IsOn (many_turn f doing page sights)
+  IsOpen creates sights = sights ≡ []
+  IsOpen drops sights = sights ≡ []
+  IsOpen names sights = sights ≡ []
 
-    -- what comes next
-    abbrev pub Next : CommandTree → List Sight → Sight → Type 0
-    Next (insert_one d) sights s = IsInserted d s ⊎ ((tx : ℕ) × IsTaken d tx s)
-    Next (find_one f sort shows) sights s = IsLook base coll f (next_from None sights) s
-    Next (find f sort shows p) sights s = IsLook base coll f (next_from (from_of p) sights) s
-    Next (count_documents f) sights s = IsLook base coll f (next_from None sights) s
-    Next (update_one f u sort) sights s = MatchOption (chosen f sort sights) (IsLook base coll f (next_from None (round sights)) s)
-        (λ x. (new : Tree) × MakesAnother u moment x.doc new × IsAttempt base coll k f (Update u moment new) (round sights) x s)
-    Next (update_many f u page) sights s = Follows base coll k f (turn (updates u moment) (update_standing f u page sights)) s
-    Next (delete_one f sort) sights s = MatchOption (chosen f sort sights) (IsLook base coll f (next_from None (round sights)) s)
-        (λ x. IsAttempt base coll k f Delete (round sights) x s)
-    Next (delete_many f) sights s = Follows base coll k f (turn deletes (delete_standing f sights)) s
+  -- what comes next
+  abbrev pub Next : Job → List Sight → Sight → Type 0
+  Next (inserts ds ordered) sights s = MatchOption (next_document ds ordered sights) ⊥ (λ d. IsInsertion base coll k d s)
+  Next (finds_one f sort shows) sights s = IsLook base coll f (next_from None sights) s
+  Next (finds f sort shows p) sights s = IsLook base coll f (next_from (from_of p) sights) s
+  Next (counts f) sights s = IsLook base coll f (next_from None sights) s
+  Next (changes_one f sort doing form) sights s = NextOne f sort doing sights s
+  Next (changes_many f doing page) sights s = Follows base coll k f (many_turn f doing page sights) s
+  Next creates sights s = IsMade s ⊎ (IsThere s ⊎ IsOneTooMany s)
+  Next drops sights s = IsDropped s ⊎ IsAbsent s
+  Next names sights s = IsMark s.item
 
-    -- the sights so far are those of the command
-    abbrev pub IsPartOf : CommandTree → List Sight → Type 0
-    IsPartOf c [] = ⊤
-    IsPartOf c (s ∷ earlier) = IsPartOf c earlier × IsOpen c earlier × Next c earlier s
+  -- the sights so far are those of the request
+  abbrev pub IsPartOf : Job → List Sight → Type 0
+  IsPartOf job [] = ⊤
+  IsPartOf job (s ∷ earlier) = IsPartOf job earlier × IsOpen job earlier × Next job earlier s
 
-    -- the reply to all of them
-    abbrev pub Answers : CommandTree → List Sight → Reply → Type 0
-    Answers (insert_one d) [] reply = ⊥
-    Answers (insert_one d) (s ∷ earlier) reply =
-        (IsInserted d s × TellsInserted (id_of d) reply)
-        ⊎ ((tx : ℕ) × IsTaken d tx s × IsRefusal (errors.already_exists (id_of d) tx) reply)
-    Answers (find_one f sort shows) sights reply =
-        IsFound f sort 1 sights (λ xs. TellsFound (option_map (λ x. view shows x.doc) (first xs)) reply) reply
-    Answers (find f sort shows p) sights reply =
-        IsFound f sort (keep_of p) sights (λ xs. TellsListed (map (λ x. view shows x.doc) (part_of p xs)) (state_after sort p (part_of p xs)) reply) reply
-    Answers (count_documents f) sights reply =
-        IsListed base coll f 1001 sights × (reply ≡ counted (length (shown base coll f sights)))
-    Answers (update_one f u sort) sights reply =
-        ((accepted sights ≡ 1) × (reply ≡ Updated 1 1))
-        ⊎ ((length (losses sights) ≡ 4) × IsRefusal (errors.lost_writes (reverse (losses sights))) reply)
-        ⊎ ((accepted sights ≡ 0) × (length (losses sights) < 4)
-        × IsFound f sort 1 (round sights) (λ xs. MatchOption (first xs) (reply ≡ Updated 0 0) (λ x. TellsUnwritten (apply u x.doc moment false) x.doc reply)) reply)
-    Answers (update_many f u page) sights reply =
-        let st = update_standing f u page sights in Ends (updates u moment) page st (turn (updates u moment) st) reply
-    Answers (delete_one f sort) sights reply =
-        ((accepted sights ≡ 1) × (reply ≡ Deleted 1))
-        ⊎ ((length (losses sights) ≡ 4) × IsRefusal (errors.lost_writes (reverse (losses sights))) reply)
-        ⊎ ((accepted sights ≡ 0) × (length (losses sights) < 4)
-        × IsFound f sort 1 (round sights) (λ xs. (xs ≡ []) × (reply ≡ Deleted 0)) reply)
-    Answers (delete_many f) sights reply =
-        let st = delete_standing f sights in Ends deletes None st (turn deletes st) reply
+  -- the reply of a command on collections to its one sight
+  abbrev pub AnswersOnce : (Sight → Reply → Type 0) → List Sight → Reply → Type 0
+  AnswersOnce Told [] reply = ⊥
+  AnswersOnce Told (s ∷ earlier) reply = Told s reply
 
-    abbrev pub IsStopped : CommandTree → List Sight → ErrorItem → Type 0
-    IsStopped c [] error = ⊥
-    IsStopped c (s ∷ earlier) error = IsPartOf c earlier × IsOpen c earlier × Stops (Marks c earlier) (IsToWrite c earlier) s.item s error
+  -- the reply to all of them
+  abbrev pub Answers : Job → List Sight → Reply → Type 0
+  Answers (inserts ds ordered) sights reply = (next_document ds ordered sights ≡ None) × TellsInsertions (inserted ds sights) (doubles ds sights) reply
+  Answers (finds_one f sort shows) sights reply =
+      IsFound f sort 1 sights (λ xs. TellsFound (option_map (λ x. view shows x.doc) (first xs)) reply) reply
+  Answers (finds f sort shows p) sights reply =
+      IsFound f sort (keep_of p) sights (λ xs. TellsListed (map (λ x. view shows x.doc) (part_of p xs)) (state_after sort p (part_of p xs)) reply) reply
+  Answers (counts f) sights reply =
+      IsListed base coll f 1001 sights × (reply ≡ counted (length (shown base coll f sights)))
+  Answers (changes_one f sort doing form) sights reply = AnswersOne f sort doing form sights reply
+  Answers (changes_many f doing page) sights reply =
+      Ends doing page (many_standing f doing page sights) (many_turn f doing page sights) reply
+  Answers creates sights reply =
+      AnswersOnce (λ s r. ((IsMade s ⊎ IsThere s) × (r ≡ Done)) ⊎ (IsOneTooMany s × IsRefusal errors.too_many_collections r)) sights reply
+  Answers drops sights reply = AnswersOnce (λ s r. (IsDropped s ⊎ IsAbsent s) × (r ≡ Done)) sights reply
+  Answers names sights reply = AnswersOnce (λ s r. IsMark s.item × TellsNames (names_of (now base coll s).collections) r) sights reply
 
-    -- what was done before the newest sight
-    abbrev pub done_before : CommandTree → List Sight → Option SoFar
-    done_before c [] = None
-    done_before c (s ∷ earlier) = done_by c earlier
+  abbrev pub IsStopped : Job → List Sight → ErrorItem → Type 0
+  IsStopped job [] error = ⊥
+  IsStopped job (s ∷ earlier) error = IsPartOf job earlier × IsOpen job earlier × Stops (Marks job earlier) (IsToWrite job earlier) s.item s error
 
-    -- the trace, the newest sight first, and the reply belong to the command: it is answered, or stopped by an error, or cut off for want of memory
-    abbrev pub Serves : CommandTree → List Sight → Reply → Type 0
-    Serves c sights reply =
-        (IsPartOf c sights × Answers c sights reply)
-        ⊎ ((error : ErrorItem) × IsStopped c sights error × IsRefusalAfter (done_before c sights) error reply)
-        ⊎ ((IsPartOf c sights ⊎ ((error : ErrorItem) × IsStopped c sights error)) × (reply ≡ NoMemory (accepted sights)))
+  -- the reply tells the errors and the writes before the newest sight, and then this error
+  abbrev pub TellsStop : Job → List Sight → ErrorItem → Reply → Type 0
+  TellsStop job [] error reply = ⊥
+  TellsStop job (s ∷ earlier) error reply = IsRefusalOf (errors_before job earlier ++ error ∷ []) (TellsBefore job earlier) reply
+
+  -- the trace, the newest sight first, and the reply belong to the request: it is answered, or stopped by an error, or cut off for want of memory
+  abbrev pub Serves : Job → List Sight → Reply → Type 0
+  Serves job sights reply =
+      (IsPartOf job sights × Answers job sights reply)
+      ⊎ ((error : ErrorItem) × IsStopped job sights error × TellsStop job sights error reply)
+      ⊎ ((IsPartOf job sights ⊎ ((error : ErrorItem) × IsStopped job sights error)) × (reply ≡ NoMemory (accepted sights)))
 
 -- what the trace saw of the history, the newest first
 abbrev pub sights : List Entry → List Item → List Sight
 sights H trace = reverse (map (sight H) trace)
 
--- the request was served: what it saw of the history H and the reply belong together
-abbrev pub IsServed : State → List Entry → Name → ℕ → ℤ → CommandTree → List Item → Reply → Type 0
-IsServed base H coll k moment c trace reply = Serves base coll k moment c (sights H trace) reply
+-- the request was served: what it saw of the history H and the reply belong together; these ids were drawn for it
+abbrev pub IsServed : State → List Entry → Name → ℕ → ℤ → List Tree → CommandTree → List Item → Reply → Type 0
+IsServed base H coll k moment ids c trace reply = Serves base coll k (job_of moment ids c) (sights H trace) reply

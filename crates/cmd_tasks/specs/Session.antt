@@ -1,10 +1,12 @@
 -- A session: the requests of one connection, served in order on one history, whatever others write there.
-use Rattle.std.specs.Prelude.{◌≡◌, ℕ, ℤ, ◌+◌, ◌≤◌, ◌⊎◌, List, [], ◌∷◌, length, Bool, false, ◌==◌, cond, Some, ⊤, slice_get}
+use Rattle.std.specs.Prelude.{◌≡◌, ℕ, ℤ, ◌+◌, ◌≤◌, ◌⊎◌, List, [], ◌∷◌, length, Bool, false, ◌==◌, cond, Option, None, Some, ⊤, slice_get}
 use Rattle.std.specs.List.{flat_map}
+use Rattle.json_tree.specs.Tree.{Tree}
 use Rattle.col_keeper.specs.Tables.{Name}
 use Rattle.store_core.specs.State.{State}
 use Rattle.store_core.specs.Journal.{IsJournal}
 use Rattle.cmd_tasks.specs.Trace.{point, writes, IsWithin}
+use Rattle.cmd_tasks.specs.Jobs.{draws}
 use Rattle.cmd_tasks.specs.Served.{IsServed}
 use Rattle.cmd_grammar.specs.Commands.{CommandTree}
 use Rattle.reply_env.specs.Reply.{IsRefusal}
@@ -15,18 +17,31 @@ use Rattle.store_core.specs.declared.entry.Entry.{Entry}
 use Rattle.store_core.specs.declared.entry.Entry.TheVariants.{Opened, Created, Dropped, Changed, Failed}
 use Rattle.cmd_tasks.specs.declared.trace.Item.{Item}
 
--- What a request asks: a command on a collection, or an error by the request alone, or nothing that was read, since memory ran out
+-- What a request asks: a command, on a collection if it is of one, or an error by the request alone, or nothing that was read,
+-- since memory ran out
 pub data Asking : Type 0 where
-  asks_for : Name → CommandTree → Asking
+  asks_for : Option Name → CommandTree → Asking
   is_refused : ErrorItem → Asking
   is_unread : Asking
 
--- A request as it was answered
+-- A request as it was answered, and the ids that were drawn for it
 pub record Exchange : Type 0 where
   pub asking : Asking
   pub moment : ℤ
+  pub ids : List Tree
   pub trace : List Item
   pub reply : Reply
+
+-- no collection has the empty name
+abbrev pub name_of : Option Name → Name
+name_of None = []
+name_of (Some coll) = coll
+
+-- how many ids are drawn for a request
+abbrev pub draws_of : Asking → ℕ
+draws_of (asks_for coll c) = draws c
+draws_of (is_refused error) = 0
+draws_of is_unread = 0
 
 -- Points don't fall, and after an item that wrote the next point lies behind its entry
 abbrev pub behind : Item → ℕ
@@ -65,13 +80,13 @@ written [] = []
 written (i ∷ is) = cond (writes i) (point i ∷ written is) (written is)
 
 -- the reply and what it rests on belong to the request
-abbrev pub Answered : State → List Entry → ℕ → ℤ → Asking → List Item → Reply → Type 0
-Answered base H k moment (asks_for coll c) trace reply = IsServed base H coll k moment c trace reply
-Answered base H k moment (is_refused error) trace reply = (trace ≡ []) × (IsRefusal error reply ⊎ (reply ≡ NoMemory 0))
-Answered base H k moment is_unread trace reply = (trace ≡ []) × (reply ≡ NoMemory 0)
+abbrev pub Answered : State → List Entry → ℕ → ℤ → List Tree → Asking → List Item → Reply → Type 0
+Answered base H k moment ids (asks_for coll c) trace reply = IsServed base H (name_of coll) k moment ids c trace reply
+Answered base H k moment ids (is_refused error) trace reply = (trace ≡ []) × (IsRefusal error reply ⊎ (reply ≡ NoMemory 0))
+Answered base H k moment ids is_unread trace reply = (trace ≡ []) × (reply ≡ NoMemory 0)
 
 abbrev pub IsAnswered : State → List Entry → ℕ → Exchange → Type 0
-IsAnswered base H k x = Answered base H k x.moment x.asking x.trace x.reply
+IsAnswered base H k x = Answered base H k x.moment x.ids x.asking x.trace x.reply
 
 -- each exchange is answered
 abbrev pub AreAnswered : State → List Entry → ℕ → List Exchange → Type 0

@@ -19,6 +19,13 @@ pub record Shown : Type 0 where
   pub x : Found
   pub look : Sight
 
+-- what became of the document that is inserted where none matches: nothing yet, or it was accepted, or a document with
+-- this number has its id
+pub data Put : Type 0 where
+  not_put : Put
+  was_put : Put
+  was_taken : Option ℕ → Put
+
 pub record Standing : Type 0 where
   -- where the next page of the listing begins, unless the listing is whole
   pub from : Option Tree
@@ -33,10 +40,11 @@ pub record Standing : Type 0 where
   pub matched : ℕ
   pub modified : ℕ
   pub last : Option Tree
+  pub put : Put
 
 -- nothing was looked at
 abbrev pub at_start : Option Tree → Standing
-at_start from = record { from = from; is_whole = false; queue = []; again = false; losses = []; matched = 0; modified = 0; last = None }
+at_start from = record { from = from; is_whole = false; queue = []; again = false; losses = []; matched = 0; modified = 0; last = None; put = not_put }
 
 -- one document is counted, of which so many were changed, and these are left
 abbrev pub count : Found → ℕ → List Shown → Standing → Standing
@@ -63,13 +71,15 @@ matching f id (Some v) = if matches f v.doc then record { id = id; tx = v.tx; do
 abbrev pub shown_with : Sight → List Found → List Shown
 shown_with look xs = map (λ x. record { x = x; look = look }) xs
 
--- the first of the queue's is counted, and changed
+-- the first of the queue's is counted, and changed; where none is left, a document was inserted
 abbrev pub win : List Shown → Standing → Standing
-win [] st = st
+win [] st = record st { put = was_put }
 win (s ∷ rest) st = record (count s.x 1 rest st) { again = false }
 
-abbrev pub lose : Loss → Standing → Standing
-lose loss st = record st { again = true; losses = loss ∷ st.losses }
+-- the first of the queue's is to be looked at again; where none is left, the id of the document that was to be inserted is taken
+abbrev pub lose : Loss → List Shown → Standing → Standing
+lose loss [] st = record st { put = was_taken loss.found }
+lose loss (s ∷ rest) st = record st { again = true; losses = loss ∷ st.losses }
 
 module _ (base : State) (coll : Name) (f : FilterTree) where
   -- a look at an id alone shows its document, if it matches
@@ -97,7 +107,7 @@ module _ (base : State) (coll : Name) (f : FilterTree) where
     abbrev pub with_item : Item → Sight → Standing → Standing
     with_item (Looked at after up shown) s st = settle doing (with_look st.again s st)
     with_item (Wrote at) s st = settle doing (win st.queue st)
-    with_item (Lost at read found) s st = lose (record { read = read; found = found }) st
+    with_item (Lost at read found) s st = lose (record { read = read; found = found }) st.queue st
     with_item (Faulted at before count) s st = st
 
     -- after these sights, of which the newest stands first
@@ -113,9 +123,15 @@ pub data Turn : Type 0 where
   looks_again : Tree → Turn
   -- an attempt to make this change of a document, as a look showed it
   attempts : Shown → Change → Turn
+  -- the insertion of this document, since none matched
+  inserts : Tree → Turn
   -- nothing: it is done, and more match or don't
   is_done : Bool → Turn
-  -- nothing: the change is refused on the document that was to be taken
+  -- nothing: this document was inserted
+  is_put : Tree → Turn
+  -- nothing: the id of this document that was to be inserted is taken, by one with this number
+  is_taken : Tree → ℕ → Turn
+  -- nothing: the change is refused on the document that was to be taken, or the one that was to be inserted is refused
   is_refused : UpdateFault → Turn
   -- nothing: four attempts on one document were lost
   gives_up : Turn
@@ -126,17 +142,32 @@ take_with s (Ok (Some change)) = attempts s change
 take_with s (Ok None) = is_done true
 take_with s (Err fault) = is_refused fault
 
+-- all was listed and none was counted: a document is inserted, if one is to be
+abbrev pub turn_put : Put → Option (Result Tree UpdateFault) → Turn
+turn_put not_put None = is_done false
+turn_put not_put (Some (Ok new)) = inserts new
+turn_put not_put (Some (Err fault)) = is_refused fault
+turn_put was_put (Some (Ok new)) = is_put new
+turn_put (was_taken (Some tx)) (Some (Ok new)) = is_taken new tx
+turn_put put up = is_done false
+
 abbrev pub turn_again : List Shown → Standing → Turn
 turn_again [] st = gives_up
 turn_again (s ∷ rest) st = if nat_lt (length st.losses) 4 then looks_again s.x.id else gives_up
 
-abbrev pub turn_on : Doing → List Shown → Standing → Turn
-turn_on doing [] st = if st.is_whole then is_done false else looks_on st.from
-turn_on doing (s ∷ rest) st = if nat_lt st.matched 20 then take_with s (change_of doing s.x.doc) else is_done true
+-- where this document is inserted if none matches, or none is
+module _ (up : Option (Result Tree UpdateFault)) where
+  -- all was listed
+  abbrev pub turn_whole : Standing → Turn
+  turn_whole st = if nat_lt 0 st.matched then is_done false else turn_put st.put up
 
-abbrev pub turn_of : Bool → Doing → Standing → Turn
-turn_of true doing st = turn_again st.queue st
-turn_of false doing st = turn_on doing st.queue st
+  abbrev pub turn_on : Doing → List Shown → Standing → Turn
+  turn_on doing [] st = if st.is_whole then turn_whole st else looks_on st.from
+  turn_on doing (s ∷ rest) st = if nat_lt st.matched 20 then take_with s (change_of doing s.x.doc) else is_done true
 
-abbrev pub turn : Doing → Standing → Turn
-turn doing st = turn_of st.again doing st
+  abbrev pub turn_of : Bool → Doing → Standing → Turn
+  turn_of true doing st = turn_again st.queue st
+  turn_of false doing st = turn_on doing st.queue st
+
+  abbrev pub turn : Doing → Standing → Turn
+  turn doing st = turn_of st.again doing st

@@ -1,12 +1,13 @@
 -- What becomes of each document that a page shows to a command that takes many documents.
-use Rattle.std.specs.Prelude.{◌≡◌, ◌⊎◌, ℕ, ◌-◌, ◌+◌, ◌^◌, ◌<◌, List, [], ◌∷◌, ◌++◌, length, map, drop, min, nat_lt, Bool, true, false, ◌&&◌, Option, Some, None, MatchOption, Ok, if◌then◌else◌}
+use Rattle.std.specs.Prelude.{◌≡◌, ◌⊎◌, ℕ, ◌-◌, ◌+◌, ◌^◌, ◌<◌, List, [], ◌∷◌, ◌++◌, length, map, drop, min, nat_lt, Bool, true, false, ◌&&◌, Option, Some, None, MatchOption, IfSome, Result, Ok, ⊤, if◌then◌else◌}
 use Rattle.std.specs.List.{filter, list_any, AllByRecursion as Each}
 use Rattle.std.specs.Option.{option_map}
 use Rattle.json_tree.specs.Tree.{Tree}
-use Rattle.shred_cols.specs.Row.{Version}
+use Rattle.shred_cols.specs.Row.{Version, id_of}
 use Rattle.shred_cols.specs.Rows.{is_after}
 use Rattle.col_keeper.specs.Tables.{Name}
 use Rattle.filter_tree.specs.Filters.{FilterTree}
+use Rattle.update_ops.specs.declared.fault.UpdateFault.{UpdateFault}
 use Rattle.view_sort.specs.Page.{state_text}
 use Rattle.view_sort.specs.declared.page.PageState.{PageState}
 use Rattle.reply_env.specs.declared.reply.SoFar.{SoFar}
@@ -20,9 +21,10 @@ use Rattle.cmd_tasks.specs.Attempts.{IsOneOf, comes_between, IsWon}
 use Rattle.cmd_tasks.specs.Part.{given_of}
 use Rattle.cmd_tasks.specs.Pages.{last_of}
 use Rattle.cmd_tasks.specs.Joined.{Rise, Matches}
-use Rattle.cmd_tasks.specs.Doing.{Doing, updates, deletes, change_of}
+use Rattle.cmd_tasks.specs.Doing.{Doing, makes, deletes, change_of}
 use Rattle.cmd_tasks.specs.Taking.{Shown, shown_with, shown_alone}
-use Rattle.cmd_tasks.specs.Turns.{IsAlone}
+use Rattle.cmd_tasks.specs.Turns.{IsAlone, upsert_for}
+use Rattle.cmd_tasks.specs.Insertions.{IsInserted}
 use Rattle.cmd_tasks.specs.Served.{accepted}
 use Rattle.cmd_tasks.specs.declared.trace.Item.{Item}
 use Rattle.cmd_tasks.specs.declared.trace.Item.TheVariants.{Looked, Wrote, Lost, Faulted}
@@ -113,17 +115,28 @@ module _ (base : State) (coll : Name) (f : FilterTree) where
   abbrev pub CameBy : List Sight → Tree → Type 0
   CameBy sights id = (s : Sight) × IsOneOf s sights × (comes_by id s.item ≡ true) × ((v : Version) → Matches base coll f id v s → IsOneOf (record { x = found (id, v); look = s }) (listed sights))
 
+-- ---- where none was counted
+
+-- the document was inserted, by a write of this session
+abbrev pub IsPut : State → Name → ℕ → List Sight → Tree → Type 0
+IsPut base coll k sights d = (write : Sight) × IsOneOf write sights × IsInserted base coll k d write
+
+-- by so many writes
+abbrev pub puts : Option Tree → ℕ
+puts None = 0
+puts (Some d) = 1
+
 -- ---- what the reply tells
 
 -- that no more match
 abbrev pub TellsAll : Reply → Type 0
-TellsAll (UpdatedMany matched modified state) = state ≡ None
+TellsAll (UpdatedMany matched modified upserted state) = state ≡ None
 TellsAll (DeletedMany deleted more) = more ≡ false
 TellsAll reply = ⊥
 
 -- that an error came after so many were counted and changed
 abbrev pub told_before : Doing → ℕ → ℕ → SoFar
-told_before (updates u moment) matched modified = so_far.Updated matched modified
+told_before (makes making up) matched modified = so_far.Updated matched modified
 told_before deletes matched modified = so_far.Deleted modified
 
 module _ (page : Option PageState) (taken : List Taken) (left : List Shown) where
@@ -145,24 +158,40 @@ module _ (page : Option PageState) (taken : List Taken) (left : List Shown) wher
   abbrev pub next_state : Option (List ℕ)
   next_state = option_map (λ t. state_text (min (given_of page + matched) (2 ^ 63 - 1)) t.shown.x.id) (last_of (counted_of taken))
 
-  -- how many were counted and changed, and whether some are left; or an error, with what was written before; or want of memory
-  abbrev pub Tells : Doing → Reply → Type 0
-  Tells (updates u moment) (UpdatedMany m n state) = (m ≡ matched) × (n ≡ modified) × MatchOption state (left ≡ []) (λ text. AreMore × (next_state ≡ Some text))
-  Tells deletes (DeletedMany n more) = (n ≡ modified) × AreLeft more
-  Tells doing (Refused errors before) = before ≡ (if nat_lt 0 modified then Some (told_before doing matched modified) else None)
-  Tells doing (NoMemory n) = n ≡ modified
-  Tells doing reply = ⊥
+  -- this document was to be inserted where none matches, and none was counted or is left
+  abbrev pub IsDue : Option (Result Tree UpdateFault) → Tree → Type 0
+  IsDue up d = (up ≡ Some (Ok d)) × (matched ≡ 0) × (left ≡ [])
+
+  -- where none was inserted, none was to be, or some were counted
+  abbrev pub IsUndue : Option (Result Tree UpdateFault) → Option Tree → Type 0
+  IsUndue up None = (up ≡ None) ⊎ (0 < matched)
+  IsUndue up (Some d) = ⊤
+
+  -- what is to be inserted where none matches, and what was
+  module _ (up : Option (Result Tree UpdateFault)) (put : Option Tree) where
+    -- how many were counted and changed, what was inserted, and whether some are left; or an error, with what was written before;
+    -- or want of memory
+    abbrev pub Tells : Doing → Reply → Type 0
+    Tells (makes making id) (UpdatedMany m n upserted state) =
+        (m ≡ matched) × (n ≡ modified) × (upserted ≡ option_map id_of put) × IsUndue up put × MatchOption state (left ≡ []) (λ text. AreMore × (next_state ≡ Some text))
+    Tells deletes (DeletedMany n more) = (n ≡ modified) × AreLeft more
+    Tells doing (Refused errors before) = (before ≡ (if nat_lt 0 modified then Some (told_before doing matched modified) else None)) × (put ≡ None)
+    Tells doing (NoMemory n) = n ≡ modified + puts put
+    Tells doing reply = ⊥
 
 -- The documents that pages showed, in order of id, so none twice: first those that were taken, each changed, unchanged or passed
--- over, and then those that are left. The writes of the request are those of the changed ones, and the reply tells how many they
--- are. The pages came by each id behind the start, unless the reply tells that more may match: then as far as they showed any
+-- over, and then those that are left. The writes of the request are those of the changed ones, and one of a document that was
+-- inserted since none was counted; the reply tells how many they are. The pages came by each id behind the start, unless the
+-- reply tells that more may match: then as far as they showed any, and none was inserted
 pub record AreTaken (base : State) (coll : Name) (k : ℕ) (f : FilterTree) (doing : Doing) (page : Option PageState) (sights : List Sight) (reply : Reply) : Type 0 where
   pub taken : List Taken
   pub left : List Shown
+  pub put : Option Tree
   pub all : listed base coll f sights ≡ map (λ t. t.shown) taken ++ left
   pub rise : Rise (map (λ s. s.x) (listed base coll f sights))
   pub each : Each (λ t. Meets base coll k f sights doing t.fate t.shown) taken
-  pub writes : accepted sights ≡ modified page taken left
-  pub tells : Tells page taken left doing reply
+  pub inserted : IfSome put (λ d. IsPut base coll k sights d × IsDue page taken left (upsert_for f doing page) d)
+  pub writes : accepted sights ≡ modified page taken left + puts put
+  pub tells : Tells page taken left (upsert_for f doing page) put doing reply
   pub whole : (id : Tree) → is_after (option_map (λ p. p.last) page) id ≡ true
-      → CameBy base coll f sights id ⊎ ((TellsAll reply → ⊥) × Each (λ s. is_after (Some s.x.id) id ≡ true) (listed base coll f sights))
+      → CameBy base coll f sights id ⊎ ((TellsAll reply → ⊥) × (put ≡ None) × Each (λ s. is_after (Some s.x.id) id ≡ true) (listed base coll f sights))

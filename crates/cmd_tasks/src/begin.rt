@@ -1,18 +1,21 @@
-// The states in which the commands begin that search.
-ghost use Rattle.std.specs.Prelude.{◌≡◌, ◌<◌, ◌≤◌, ◌-◌, ◌^◌, ℤ, None, Some};
+// The states in which requests begin.
+ghost use Rattle.std.specs.Prelude.{◌≡◌, ◌≤◌, IfSome};
 ghost use Rattle.std.specs.Option.{option_map};
 ghost use Rattle.filter_tree.specs.View.{filter_tree};
-ghost use Rattle.cmd_grammar.specs.Commands.{IsAskableFilter, IsAskablePage, IsAskablePaging, Paging, find_one, find, update_one, update_many, delete_one, delete_many};
-ghost use Rattle.cmd_tasks.specs.Part.{given_of, from_of, most_of};
+ghost use Rattle.cmd_grammar.specs.Commands.{IsAskableFilter, IsAskablePage, IsAskablePaging, Paging};
+ghost use Rattle.cmd_tasks.specs.Doing.{makes};
+ghost use Rattle.cmd_tasks.specs.Jobs.{finds_one, finds, counts, changes_one, changes_many, upsert_id, one_if};
+ghost use Rattle.cmd_tasks.specs.Ids.{drawn, after_drawing, stream_of_ids};
+ghost use Rattle.cmd_tasks.specs.Part.{given_of, most_of};
 ghost use Rattle.cmd_tasks.specs.Moves.{Begins};
-ghost use Rattle.cmd_tasks.specs.Many.{IsStart};
+ghost use Rattle.cmd_tasks.specs.Many.{IsStart, making_of, doing_of, form_of};
 
-use crate::work::{Deletion, Doing, Many, Part, Progress, Search, Stand, State, Updating, Wanted};
+use crate::ids::Ids;
+use crate::work::{Doing, Form, Making, Many, One, Part, Progress, Search, Stand, State, Wanted};
 use filter_tree::Filter;
 use json_tree::DocId;
 use std::alloc::Global;
 use std::snapshot::Snapshot;
-use update_ops::Updates;
 use view_sort::{PageState, Projection, Sort};
 
 /// So many documents are shown on a page at most.
@@ -21,7 +24,7 @@ const PAGE: u64 = 20;
 /// The state in which findOne begins.
 pub(crate) fn selecting(alloc: Global, filter: Filter, sort: Sort, projection: Projection) -> State
     requires { IsAskableFilter (filter_tree filter) }
-    ensures { (moment : ℤ) → Begins moment (find_one (filter_tree filter) sort projection) result }
+    ensures { Begins (finds_one (filter_tree filter) sort projection) result }
 {
     State::Selecting {
         search: Search {
@@ -34,26 +37,32 @@ pub(crate) fn selecting(alloc: Global, filter: Filter, sort: Sort, projection: P
     }
 }
 
-/// The state in which updateOne begins.
-pub(crate) fn choosing(
-    alloc: Global,
-    moment: i64,
-    filter: Filter,
-    updates: Updates,
-    sort: Sort,
-) -> State
+/// The state in which countDocuments begins.
+pub(crate) fn counting(alloc: Global, filter: Filter) -> State
     requires { IsAskableFilter (filter_tree filter) }
-    ensures { Begins moment (update_one (filter_tree filter) updates sort) result }
+    ensures { Begins (counts (filter_tree filter)) result }
+{
+    State::Counting {
+        wanted: Wanted::new(alloc, filter),
+        last: None,
+        shown: 0,
+    }
+}
+
+/// The state in which a command begins that changes one document.
+pub(crate) fn choosing(alloc: Global, filter: Filter, sort: Sort, doing: Doing, form: Form) -> State
+    requires { IsAskableFilter (filter_tree filter) }
+    ensures { Begins (changes_one (filter_tree filter) sort (doing_of doing) (form_of form)) result }
 {
     State::Choosing {
-        update: Updating {
+        one: One {
             search: Search {
                 wanted: Wanted::new(alloc, filter),
                 sort,
                 keep: 1,
             },
-            updates,
-            moment,
+            doing,
+            form,
             lost: Vec::new(alloc),
         },
         progress: Progress::begin(alloc, None),
@@ -104,7 +113,7 @@ pub(crate) fn listing(
 ) -> State
     requires filter { IsAskableFilter (filter_tree filter) }
     requires paging { IsAskablePaging (record { limit = limit; skip = skip; page = page }) }
-    ensures { (moment : ℤ) → Begins moment (find (filter_tree filter) sort projection (record { limit = limit; skip = skip; page = page })) result }
+    ensures { Begins (finds (filter_tree filter) sort projection (record { limit = limit; skip = skip; page = page })) result }
 {
     let snapshot = Snapshot::of(&page);
     let given = given_before(&page);
@@ -126,24 +135,6 @@ pub(crate) fn listing(
     }
 }
 
-/// The state in which deleteOne begins.
-pub(crate) fn seeking(alloc: Global, filter: Filter, sort: Sort) -> State
-    requires { IsAskableFilter (filter_tree filter) }
-    ensures { (moment : ℤ) → Begins moment (delete_one (filter_tree filter) sort) result }
-{
-    State::Seeking {
-        deletion: Deletion {
-            search: Search {
-                wanted: Wanted::new(alloc, filter),
-                sort,
-                keep: 1,
-            },
-            lost: Vec::new(alloc),
-        },
-        progress: Progress::begin(alloc, None),
-    }
-}
-
 /// Nothing is listed yet of many documents; their first page begins behind this id.
 fn stand_at(alloc: Global, from: Option<DocId>) -> Stand
     ensures { IsStart from result }
@@ -159,44 +150,49 @@ fn stand_at(alloc: Global, from: Option<DocId>) -> Stand
     }
 }
 
-/// The state in which updateMany begins.
-pub(crate) fn updating_many(
+/// The state in which a command begins that changes many documents.
+pub(crate) fn paging_over(
     alloc: Global,
-    moment: i64,
     filter: Filter,
-    updates: Updates,
+    doing: Doing,
     page: Option<PageState>,
 ) -> State
     requires filter { IsAskableFilter (filter_tree filter) }
     requires page { IsAskablePage page }
-    ensures { Begins moment (update_many (filter_tree filter) updates page) result }
+    ensures { Begins (changes_many (filter_tree filter) (doing_of doing) page) result }
 {
     let snapshot = Snapshot::of(&page);
     let given = given_before(&page);
+    let is_first = page.is_none();
     State::Paging {
         many: Many {
             wanted: Wanted::new(alloc, filter),
-            doing: Doing::Updates { updates, moment },
+            doing,
             given,
+            is_first,
             page: snapshot,
         },
         stand: stand_at(alloc, last_before(page)),
     }
 }
 
-/// The state in which deleteMany begins.
-pub(crate) fn deleting_many(alloc: Global, filter: Filter) -> State
-    requires { IsAskableFilter (filter_tree filter) }
-    ensures { (moment : ℤ) → Begins moment (delete_many (filter_tree filter)) result }
+/// What is done to a document that matches: another one is made of it. Where one may be inserted since none matches, its
+/// id is drawn.
+pub(crate) fn making(alloc: Global, making: Making, upsert: bool, ids: &mut Ids) -> Option<Doing>
+    ensures doing { IfSome result (λ doing. doing_of doing ≡ makes (making_of making) (upsert_id upsert (drawn (one_if upsert) (stream_of_ids ids.old)))) }
+    ensures after { stream_of_ids ids.new ≡ after_drawing (one_if upsert) (stream_of_ids ids.old) }
 {
-    let page: Option<PageState> = None;
-    State::Paging {
-        many: Many {
-            wanted: Wanted::new(alloc, filter),
-            doing: Doing::Deletes,
-            given: 0,
-            page: Snapshot::of(&page),
-        },
-        stand: stand_at(alloc, None),
+    if !upsert {
+        return Some(Doing::Makes {
+            making,
+            upsert: None,
+        });
+    }
+    match ids.draw(alloc) {
+        Ok(id) => Some(Doing::Makes {
+            making,
+            upsert: Some(id),
+        }),
+        Err(_) => None,
     }
 }

@@ -1,11 +1,16 @@
 // Laws of tasks and sessions: each function does nothing, and its clauses are the laws.
-ghost use Rattle.std.specs.Prelude.{◌≡◌, ◌≢◌, ◌≤◌, ◌+◌, ℕ, ℤ, List, Option, length, slice_get, slice_set, [], ◌∷◌, ◌++◌, Some, None, true};
+ghost use Rattle.std.specs.Prelude.{◌≡◌, ◌≢◌, ◌≤◌, ◌+◌, ℕ, ℤ, Bool, List, Option, length, slice_get, slice_set, [], ◌∷◌, ◌++◌, Some, None, true};
 ghost use Rattle.std.specs.List.{AllByRecursion as Each};
 ghost use Rattle.std.specs.Option.{ForSome};
+ghost use Rattle.json_tree.specs.Tree.{Tree};
+ghost use Rattle.outside_io.specs.Causes.{Rose};
 ghost use Rattle.shred_cols.specs.Rows.{ascends};
 ghost use Rattle.col_keeper.specs.Tables.{Name};
 ghost use Rattle.reply_env.specs.declared.reply.Reply.{Reply as Answer};
 ghost use Rattle.reply_env.specs.declared.reply.Reply.TheVariants.{NoMemory};
+ghost use Rattle.reply_env.specs.declared.reply.ErrorItem.{ErrorItem as Blamed};
+ghost use Rattle.reply_env.specs.declared.request.Request.{Request as Asked};
+ghost use Rattle.cmd_grammar.specs.Requests.{IsRefused};
 ghost use Rattle.store_core.specs.State.{State as Base};
 ghost use Rattle.store_core.specs.Journal.{IsJournal};
 ghost use Rattle.store_core.specs.Counts.{AllBy, opened_in};
@@ -16,12 +21,14 @@ ghost use Rattle.update_ops.specs.Clauses.{Clause};
 ghost use Rattle.view_sort.specs.declared.page.PageState.{PageState};
 ghost use Rattle.cmd_grammar.specs.Commands.{CommandTree, Shows, command_tree, update_many, delete_many};
 ghost use Rattle.cmd_tasks.specs.Served.{IsServed, sights};
-ghost use Rattle.cmd_tasks.specs.Session.{Exchange, IsSession, IsAnswered, AreSessions, AreWithin, NoWork, Records};
+ghost use Rattle.cmd_tasks.specs.Session.{Exchange, IsSession, IsAnswered, AreCounted, AreSessions, AreWithin, NoWork, Records, name_of};
+ghost use Rattle.cmd_tasks.specs.Undisturbed.{IsUncontested, IsUnfailed, IsOwn, BlamesItself};
 ghost use Rattle.cmd_tasks.specs.Joined.{Page, IdsAreTold, ArePages, ShowEachOnce};
-ghost use Rattle.cmd_tasks.specs.Doing.{updates, deletes};
+ghost use Rattle.cmd_tasks.specs.Doing.{makes, updates, deletes};
+ghost use Rattle.cmd_tasks.specs.Jobs.{upsert_id};
 ghost use Rattle.cmd_tasks.specs.Tally.{AreTaken};
 ghost use Rattle.cmd_tasks.specs.Moves.{accepted_by};
-ghost use Rattle.cmd_tasks.specs.Stands.{StandsOn};
+ghost use Rattle.cmd_tasks.specs.Stands.{StandsOn, ids_of};
 ghost use Rattle.cmd_tasks.specs.declared.task.Task.{Task as Tasked};
 ghost use Rattle.cmd_tasks.specs.declared.trace.Item.{Item as Seen};
 
@@ -35,13 +42,13 @@ pub fn others_may_append()
 /// The trace of a task that stands, with the reply for want of memory, was served.
 pub fn a_task_may_be_cut_off()
     ensures { (start : Option Base) (history : List Journaled) (task : Tasked) → StandsOn start history task
-        → ForSome start (λ base. IsServed base history task.coll task.session task.trace.moment (command_tree task.command.value) task.trace.items.items (NoMemory (accepted_by task.state))) }
+        → ForSome start (λ base. IsServed base history (name_of task.coll) task.session task.trace.moment (ids_of task) (command_tree task.command.value) task.trace.items.items (NoMemory (accepted_by task.state))) }
 {}
 
 /// What was served stays served in every longer history.
 pub fn what_was_served_stays()
-    ensures { (base : Base) (history more : List Journaled) (coll : Name) (k : ℕ) (moment : ℤ) (c : CommandTree) (trace : List Seen) (reply : Answer)
-        → AreWithin (length history) trace → IsServed base history coll k moment c trace reply → IsServed base (history ++ more) coll k moment c trace reply }
+    ensures { (base : Base) (history more : List Journaled) (coll : Name) (k : ℕ) (moment : ℤ) (ids : List Tree) (c : CommandTree) (trace : List Seen) (reply : Answer)
+        → AreWithin (length history) trace → IsServed base history coll k moment ids c trace reply → IsServed base (history ++ more) coll k moment ids c trace reply }
 {}
 
 /// A session stays one in every longer history to which others alone have added.
@@ -93,11 +100,33 @@ pub fn pages_show_each_once()
 /// Each document that matched when updateMany or deleteMany looked at its page is counted once, or another session changed it
 /// behind that look and then it no longer matched, or the command ended before its turn: then the reply tells that more match,
 /// or an error, or want of memory. The counts of the reply are those of the documents that were counted, and of the writes. Where
-/// the reply tells that no more match, pages came by each id behind the start. This holds where the rows of the base ascend, as
-/// a keeper's tables do.
+/// the reply tells that no more match, pages came by each id behind the start. updateMany inserts a document only where none was
+/// counted and pages came by each id, by one write more. A reply with counts tells its id, and there is one wherever one is to be
+/// inserted and none was counted. This holds where the rows of the base ascend, as a keeper's tables do.
 pub fn each_match_is_counted()
-    ensures updated { (base : Base) (history : List Journaled) (coll : Name) (k : ℕ) (moment : ℤ) (f : FilterTree) (u : List Clause) (page : Option PageState) (trace : List Seen) (reply : Answer)
-        → Each (λ c. ascends c.rows ≡ true) base.collections → IsServed base history coll k moment (update_many f u page) trace reply → AreTaken base coll k f (updates u moment) page (sights history trace) reply }
-    ensures deleted { (base : Base) (history : List Journaled) (coll : Name) (k : ℕ) (moment : ℤ) (f : FilterTree) (trace : List Seen) (reply : Answer)
-        → Each (λ c. ascends c.rows ≡ true) base.collections → IsServed base history coll k moment (delete_many f) trace reply → AreTaken base coll k f deletes None (sights history trace) reply }
+    ensures updated { (base : Base) (history : List Journaled) (coll : Name) (k : ℕ) (moment : ℤ) (ids : List Tree) (f : FilterTree) (u : List Clause) (upsert : Bool) (page : Option PageState) (trace : List Seen) (reply : Answer)
+        → Each (λ c. ascends c.rows ≡ true) base.collections → IsServed base history coll k moment ids (update_many f u upsert page) trace reply
+        → AreTaken base coll k f (makes (updates u moment) (upsert_id upsert ids)) page (sights history trace) reply }
+    ensures deleted { (base : Base) (history : List Journaled) (coll : Name) (k : ℕ) (moment : ℤ) (ids : List Tree) (f : FilterTree) (trace : List Seen) (reply : Answer)
+        → Each (λ c. ascends c.rows ≡ true) base.collections → IsServed base history coll k moment ids (delete_many f) trace reply → AreTaken base coll k f deletes None (sights history trace) reply }
+{}
+
+/// No write of a session is lost to another where all entries behind its opening are by it: a write that isn't accepted is the
+/// insertion of a document whose id is there, and no reply tells lost writes.
+pub fn a_session_alone_loses_nothing()
+    ensures { (base : Base) (before more : List Journaled) (k : ℕ) (exchanges : List Exchange) → AllBy k more → Each (λ x. BlamesItself x.asking) exchanges
+        → IsSession base (before ++ Opened k ∷ more) k exchanges → Each (IsUncontested base (before ++ Opened k ∷ more) k) exchanges }
+{}
+
+/// Where the keeper's count of faults doesn't rise behind a session's opening, no call of it fails under the session's requests,
+/// and no reply tells one, whatever others write.
+pub fn a_count_that_stays_has_no_fault()
+    ensures { (base : Base) (before more : List Journaled) (k low high : ℕ) (exchanges : List Exchange) → AreCounted low high more → (Rose low high → ⊥) → Each (λ x. BlamesItself x.asking) exchanges
+        → IsSession base (before ++ Opened k ∷ more) k exchanges → Each IsUnfailed exchanges }
+{}
+
+/// A request that is refused by itself is refused by an error of its own: it tells neither a failed call of the keeper nor a
+/// lost write.
+pub fn a_refused_request_blames_itself()
+    ensures { (keyspace : List ℕ) (request : Asked) (error : Blamed) → IsRefused keyspace request error → IsOwn error }
 {}

@@ -2,7 +2,7 @@
 ghost use Rattle.std.specs.Prelude.{◌≡◌, ◌⊎◌, ◌+◌, ◌<◌, ◌≤◌, length, Some, IfOk, IfSome, IsSome};
 ghost use Rattle.shred_cols.specs.Row.{id_of};
 ghost use Rattle.filter_tree.specs.View.{filter_tree};
-ghost use Rattle.col_keeper.specs.Tables.{IsShort};
+ghost use Rattle.col_keeper.specs.Tables.{IsShort, KeepsLimits};
 ghost use Rattle.store_core.specs.Counts.{opened_in};
 ghost use Rattle.store_core.specs.Store.{IsLawful, SameBase, AtState};
 ghost use Rattle.store_core.specs.Growth.{Grows};
@@ -12,16 +12,16 @@ ghost use Rattle.cmd_tasks.specs.Moves.{Steps, Promises, IsReady, Fits};
 ghost use Rattle.cmd_tasks.specs.ManySteps.{HasPage, EndsAfter, LosesOne, matching_row, pairs_of, HasFirst, Retakes};
 ghost use Rattle.cmd_tasks.specs.declared.work.Moved.TheVariants as moved;
 
-use crate::deletes::{Ends, ends_of};
 use crate::glance::glance;
-use crate::steps::{failed, marked};
+use crate::insertions::put_in_place;
+use crate::one::{MOST, conflict, with_loss};
+use crate::steps::{Ends, ends_of, failed, marked};
 use crate::taking::{counted, go_on, told_after};
 use crate::trace::Item;
-use crate::updates::{MOST, conflict, with_loss};
 use crate::work::{Attempt, Doing, Glance, Many, Moved, Stand, State, Wanted, is_match};
 use col_keeper::Keeper;
 use doc_paths::CollName;
-use json_tree::{DocId, TreeFault};
+use json_tree::{Doc, DocId, TreeFault};
 use reply_env::{Loss, Reply, no_collection, versions_spent};
 use shred_cols::Row;
 use std::alloc::{AllocError, Global};
@@ -301,4 +301,30 @@ pub(crate) fn look_again<K: Keeper>(
         }
         Looked::NoMemory => Moved::NoMemory,
     }
+}
+
+/// The insertion of a document since none was counted. Where it is accepted, this is the reply.
+pub(crate) fn put_one<K: Keeper>(
+    alloc: Global,
+    store: &mut Store<K>,
+    by: u64,
+    coll: &CollName,
+    many: Many,
+    stand: Stand,
+    doc: Doc,
+    reply: Reply,
+) -> Moved
+    requires known { by < opened_in store.old.journal }
+    requires limits { KeepsLimits doc }
+    ensures steps { Steps by (K.failed store.old.keeper) (K.failed store.new.keeper) (State.PuttingMany many stand doc reply) store.old.journal store.new.journal result }
+    ensures leads { Promises store.old.start coll.now by store.old.journal store.new.journal (State.PuttingMany many stand doc reply) result }
+    ensures base { SameBase store.old store.new }
+    ensures grows { Grows (Some by) store.old.journal store.new.journal }
+    ensures faults { K.failed store.old.keeper ≤ K.failed store.new.keeper }
+    ensures work { K.called store.new.keeper ≤ K.called store.old.keeper + 1 }
+    ensures lawful { IsLawful store.new }
+{
+    drop(many);
+    drop(stand);
+    put_in_place(alloc, store, by, coll, doc, reply)
 }

@@ -1,98 +1,29 @@
 // Many documents: what is taken next, and the reply where nothing is.
-ghost use Rattle.std.specs.Prelude.{◌≡◌, ◌⊎◌, ℕ, ◌+◌, ◌-◌, ◌^◌, ◌<◌, ◌≤◌, min, false, Option, Some, IfOk, IfErr, IfSome};
+ghost use Rattle.std.specs.Prelude.{◌≡◌, ◌⊎◌, ℕ, ◌+◌, ◌-◌, ◌^◌, ◌<◌, ◌≤◌, min, true, false, [], Option, Some, None, IfOk, IfSome};
 ghost use Rattle.std.specs.Option.{option_map};
-ghost use Rattle.shred_cols.specs.Row.{id_of};
-ghost use Rattle.col_keeper.specs.Tables.{IsShort};
-ghost use Rattle.update_ops.specs.Apply.{Gives, apply};
-ghost use Rattle.update_ops.specs.declared.fault.UpdateFault.TheVariants as faults;
+ghost use Rattle.col_keeper.specs.Tables.{KeepsLimits};
 ghost use Rattle.view_sort.specs.Page.{state_text};
 ghost use Rattle.view_sort.specs.declared.page.PageState.{PageState as Page};
 ghost use Rattle.reply_env.specs.declared.reply.ErrorItem.{ErrorItem as Error};
 ghost use Rattle.reply_env.specs.declared.reply.Reply.TheVariants as replies;
-ghost use Rattle.store_core.specs.Journal.{FitsId, new_doc};
-ghost use Rattle.store_core.specs.declared.entry.Change.{Change as Written};
-ghost use Rattle.store_core.specs.declared.entry.Change.TheVariants as changes;
 ghost use Rattle.cmd_tasks.specs.Part.{given_of};
 ghost use Rattle.cmd_tasks.specs.Looking.{Refuses};
-ghost use Rattle.cmd_tasks.specs.Doing.{update_to, change_of as change};
-ghost use Rattle.cmd_tasks.specs.Taking.{Standing, settle as settled_of};
+ghost use Rattle.cmd_tasks.specs.Taking.{Standing, settle as settled_of, inserts, turn};
 ghost use Rattle.cmd_tasks.specs.Turns.{so_far_of, state_behind as text_behind, done_reply};
-ghost use Rattle.cmd_tasks.specs.Many.{doing_of, IsMany, IsStand, IsStanding};
-ghost use Rattle.cmd_tasks.specs.Going.{IsCounted, tally, Meets, Settles, SettlesReady, GoesOnFrom, GoesReady, RefusesAfter};
+ghost use Rattle.cmd_tasks.specs.Many.{doing_of, put_for, IsMany, IsStand, IsStanding};
+ghost use Rattle.cmd_tasks.specs.Going.{IsCounted, tally, Settles, SettlesReady, MakesPut, TurnsDown, GoesOnFrom, GoesReady, RefusesAfter};
 
+use crate::meeting::{Met, declined, meet, to_insert};
 use crate::trace::Item;
-use crate::updates::declined;
 use crate::work::{Attempt, Doing, Many, Moved, Stand, State};
 use json_tree::{Doc, DocId, Text};
 use reply_env::{Reply, SoFar};
-use shred_cols::Row;
 use std::alloc::Global;
-use store_core::Change;
-use update_ops::{Applied, UpdateFault, Updates, ids_are_kept};
+use update_ops::UpdateFault;
 use view_sort::{PageState, ViewFault};
 
 /// So many documents are counted at most.
 const MOST_COUNTED: u64 = 20;
-
-/// The change that writes this new document.
-fn update_of(
-    alloc: Global,
-    updates: &Updates,
-    moment: i64,
-    doc: Doc,
-) -> Result<Option<Change>, UpdateFault>
-    ensures ok { IfOk result (λ written. written ≡ Some (changes.Update updates.now moment doc)) }
-    ensures err { IfErr result (λ fault. fault ≡ faults.NoMemory) }
-{
-    match updates.try_copy(alloc) {
-        Ok(updates) => Ok(Some(Change::Update {
-            updates,
-            moment,
-            doc,
-        })),
-        Err(_) => Err(UpdateFault::NoMemory),
-    }
-}
-
-/// What updates write in the place of a document, if they change it.
-fn updated(
-    alloc: Global,
-    updates: &Updates,
-    moment: i64,
-    doc: &Doc,
-) -> Result<Option<Change>, UpdateFault>
-    ensures told { Gives (λ (written : Option Written). written) result (update_to updates.now moment doc.now (apply updates.now doc.now moment false)) }
-    ensures fits { IfOk result (λ written. IfSome written (λ c. FitsId (id_of doc.now) (new_doc c))) }
-{
-    ids_are_kept();
-    doc.value();
-    match updates.apply(alloc, doc, moment, false) {
-        Ok(
-            Applied {
-                doc: new,
-                changed: true,
-            },
-        ) => update_of(alloc, updates, moment, new),
-        Ok(
-            Applied {
-                doc: _,
-                changed: false,
-            },
-        ) => Ok(None),
-        Err(fault) => Err(fault),
-    }
-}
-
-/// What is written in the place of a document, if anything is.
-fn change_of(alloc: Global, doing: &Doing, doc: &Doc) -> Result<Option<Change>, UpdateFault>
-    ensures told { Gives (λ (written : Option Written). written) result (change (doing_of doing.now) doc.now) }
-    ensures fits { IfOk result (λ written. IfSome written (λ c. FitsId (id_of doc.now) (new_doc c))) }
-{
-    match doing {
-        Doing::Updates { updates, moment } => updated(alloc, updates, *moment, doc),
-        Doing::Deletes => Ok(Some(Change::Delete)),
-    }
-}
 
 /// One document is counted, of which so many were changed.
 pub(crate) fn counted(alloc: Global, stand: Stand, id: DocId, changed: u64) -> Stand
@@ -116,33 +47,6 @@ pub(crate) fn counted(alloc: Global, stand: Stand, id: DocId, changed: u64) -> S
         matched: matched + 1,
         modified: modified + changed,
         last: Some(id),
-    }
-}
-
-/// What a row's document asks for: no write, since it would stay as it is, or an attempt; or its change is refused, or
-/// memory was wanting.
-#[derive(Drop)]
-enum Met {
-    Unchanged(DocId),
-    Changed(Attempt),
-    Refused(UpdateFault),
-}
-
-fn meet(alloc: Global, doing: &Doing, row: &Row) -> Met
-    requires { IsShort (id_of row.now.doc) }
-    ensures { Meets (doing_of doing.now) row.now result }
-{
-    let Ok(id) = row.id().try_copy(alloc) else {
-        return Met::Refused(UpdateFault::NoMemory);
-    };
-    match change_of(alloc, doing, row.doc()) {
-        Ok(Some(change)) => Met::Changed(Attempt {
-            id,
-            read: row.tx(),
-            change,
-        }),
-        Ok(None) => Met::Unchanged(id),
-        Err(fault) => Met::Refused(fault),
     }
 }
 
@@ -183,7 +87,7 @@ fn so_far(doing: &Doing, stand: &Stand) -> Option<SoFar>
         return None;
     }
     match doing {
-        Doing::Updates { .. } => Some(SoFar::Updated {
+        Doing::Makes { .. } => Some(SoFar::Updated {
             matched: stand.matched,
             modified: stand.modified,
         }),
@@ -233,7 +137,7 @@ fn state_behind(
 /// The reply where many were updated and no more match, or some do.
 fn updated_many(alloc: Global, given: u64, stand: Stand, more: bool) -> Reply
     requires { (given < 2 ^ 63) × (stand.matched ≤ 20) }
-    ensures { (page : Option Page) → given_of page ≡ given → (result ≡ replies.UpdatedMany stand.matched stand.modified (text_behind page (tally stand) more)) ⊎ (result ≡ replies.NoMemory stand.modified) }
+    ensures { (page : Option Page) → given_of page ≡ given → (result ≡ replies.UpdatedMany stand.matched stand.modified None (text_behind page (tally stand) more)) ⊎ (result ≡ replies.NoMemory stand.modified) }
 {
     let Stand {
         from: _,
@@ -248,6 +152,7 @@ fn updated_many(alloc: Global, given: u64, stand: Stand, more: bool) -> Reply
         return Reply::UpdatedMany {
             matched,
             modified,
+            upserted: None,
             state: None,
         };
     }
@@ -255,6 +160,7 @@ fn updated_many(alloc: Global, given: u64, stand: Stand, more: bool) -> Reply
         Ok(state) => Reply::UpdatedMany {
             matched,
             modified,
+            upserted: None,
             state,
         },
         Err(_) => Reply::NoMemory { accepted: modified },
@@ -267,7 +173,7 @@ fn done(alloc: Global, many: Many, stand: Stand, more: bool) -> Reply
     ensures { (result ≡ done_reply (doing_of many.doing) many.page.value (tally stand) more) ⊎ (result ≡ replies.NoMemory stand.modified) }
 {
     match many.doing {
-        Doing::Updates { .. } => updated_many(alloc, many.given, stand, more),
+        Doing::Makes { .. } => updated_many(alloc, many.given, stand, more),
         Doing::Deletes => Reply::DeletedMany {
             deleted: stand.modified,
             more,
@@ -275,7 +181,80 @@ fn done(alloc: Global, many: Many, stand: Stand, more: bool) -> Reply
     }
 }
 
-/// Nothing is taken: the next page is to be listed, or all is done.
+/// The document that is inserted since none matched, if one is to be: none behind the first page.
+fn to_put(alloc: Global, many: &Many) -> Result<Option<Doc>, UpdateFault>
+    requires { IsMany many.now }
+    ensures told { MakesPut (put_for many.now) result }
+    ensures limits { IfOk result (λ made. IfSome made (λ d. KeepsLimits d)) }
+{
+    if many.is_first {
+        to_insert(alloc, &many.wanted.filter, &many.doing)
+    } else {
+        Ok(None)
+    }
+}
+
+/// The change of the document that was to be taken is refused, or the one that was to be inserted is.
+fn refused(alloc: Global, item: Item, many: Many, stand: Stand, fault: UpdateFault) -> Moved
+    ensures told { (st : Standing) → TurnsDown many stand fault st → GoesOnFrom many item st result }
+    ensures ready { (begun : Stand) → GoesReady many item begun result }
+{
+    let reply = told_after(&many.doing, &stand, declined(alloc, fault));
+    drop(many);
+    drop(stand);
+    Moved::Ends { item, reply }
+}
+
+/// This document is to be inserted. The reply that tells it is made before, so that no memory is wanting behind the write.
+fn putting(alloc: Global, item: Item, many: Many, stand: Stand, doc: Doc) -> Moved
+    requires { KeepsLimits doc }
+    ensures told { (st : Standing) → turn (put_for many) (doing_of many.doing) st ≡ inserts doc → stand.modified ≡ 0 → st.modified ≡ 0 → GoesOnFrom many item st result }
+    ensures ready { (begun : Stand) → GoesReady many item begun result }
+{
+    let Ok(id) = doc.id().try_copy(alloc) else {
+        return Moved::Ends {
+            item,
+            reply: Reply::NoMemory { accepted: 0 },
+        };
+    };
+    let reply = Reply::UpdatedMany {
+        matched: 0,
+        modified: 0,
+        upserted: Some(id),
+        state: None,
+    };
+    Moved::Goes {
+        item,
+        state: State::PuttingMany {
+            many,
+            stand,
+            doc,
+            reply,
+        },
+    }
+}
+
+/// All was listed and nothing waits: all is done, or since none was counted, a document is to be inserted.
+fn ended(alloc: Global, item: Item, many: Many, stand: Stand) -> Moved
+    requires { IsMany many × IsStand stand }
+    ensures told { (st : Standing) → IsStanding stand st [] → st.queue ≡ [] → st.again ≡ false → st.is_whole ≡ true → GoesOnFrom many item st result }
+    ensures ready { (begun : Stand) → GoesReady many item begun result }
+{
+    if stand.matched > 0 {
+        let reply = done(alloc, many, stand, false);
+        return Moved::Ends { item, reply };
+    }
+    match to_put(alloc, &many) {
+        Ok(Some(doc)) => putting(alloc, item, many, stand, doc),
+        Ok(None) => Moved::Ends {
+            item,
+            reply: done(alloc, many, stand, false),
+        },
+        Err(fault) => refused(alloc, item, many, stand, fault),
+    }
+}
+
+/// Nothing is taken: the next page is to be listed, or all is done, or a document is to be inserted.
 fn untaken(alloc: Global, item: Item, many: Many, stand: Stand) -> Moved
     requires { IsMany many × IsStand stand }
     ensures told { (st : Standing) → Settles (doing_of many.doing) st (Settled.Untaken stand) → GoesOnFrom many item st result }
@@ -286,24 +265,12 @@ fn untaken(alloc: Global, item: Item, many: Many, stand: Stand) -> Moved
         return Moved::Ends { item, reply };
     }
     if stand.is_whole {
-        let reply = done(alloc, many, stand, false);
-        return Moved::Ends { item, reply };
+        return ended(alloc, item, many, stand);
     }
     Moved::Goes {
         item,
         state: State::Paging { many, stand },
     }
-}
-
-/// The change of the document that was to be taken is refused.
-fn refused(alloc: Global, item: Item, many: Many, stand: Stand, fault: UpdateFault) -> Moved
-    ensures told { (st : Standing) → Settles (doing_of many.doing) st (Settled.Refused stand fault) → GoesOnFrom many item st result }
-    ensures ready { (begun : Stand) → GoesReady many item begun result }
-{
-    let reply = told_after(&many.doing, &stand, declined(alloc, fault));
-    drop(many);
-    drop(stand);
-    Moved::Ends { item, reply }
 }
 
 /// Goes on behind an item, as far as nothing is to be asked of the store.

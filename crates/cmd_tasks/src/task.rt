@@ -1,5 +1,5 @@
 // A task.
-ghost use Rattle.std.specs.Prelude.{◌≡◌, ⊤, ℕ, ◌+◌, ◌<◌, ◌≤◌, List, Option, Some, None, true, []};
+ghost use Rattle.std.specs.Prelude.{◌≡◌, ⊤, ◌+◌, ◌<◌, ◌≤◌, List, Option, Some, None, IfSome, []};
 ghost use Rattle.std.specs.Option.{ForSome};
 ghost use Rattle.store_core.specs.Counts.{opened_in};
 ghost use Rattle.store_core.specs.State.{State as Base};
@@ -8,17 +8,22 @@ ghost use Rattle.store_core.specs.Growth.{Grows};
 ghost use Rattle.store_core.specs.declared.entry.Entry.{Entry as Journaled};
 ghost use Rattle.cmd_grammar.specs.Commands.{command_tree, IsAskable};
 ghost use Rattle.cmd_tasks.specs.Served.{IsServed};
-ghost use Rattle.cmd_tasks.specs.Moves.{Steps, Promises, IsReady, Begins, Fits, left, accepted_by};
-ghost use Rattle.cmd_tasks.specs.Stands.{StandsOn, IsSame, Adds, IfDone};
+ghost use Rattle.cmd_tasks.specs.Moves.{asked, Steps, Promises, IsReady, Begins, Fits, left, accepted_by};
+ghost use Rattle.cmd_tasks.specs.Jobs.{draws};
+ghost use Rattle.cmd_tasks.specs.Ids.{after_drawing, stream_of_ids};
+ghost use Rattle.cmd_tasks.specs.Session.{name_of};
+ghost use Rattle.cmd_tasks.specs.Stands.{StandsOn, HasCollection, IsChange, IsTargeted, ids_of, job, IsSame, Adds, IfDone};
 
-use crate::begin::{choosing, deleting_many, listing, seeking, selecting, updating_many};
-use crate::deletes::{delete, seek};
+use crate::collections::{create, drop_collection, name_all};
 use crate::finds::{list, select};
-use crate::many::{list_more, look_again, try_one};
-use crate::steps::{count, insert};
-use crate::trace::{Item, Trace};
-use crate::updates::{change, choose};
-use crate::work::{Moved, State, Wanted};
+use crate::first::first_state;
+use crate::ids::Ids;
+use crate::insertions::insert;
+use crate::many::{list_more, look_again, put_one, try_one};
+use crate::one::{change, choose, put};
+use crate::steps::count;
+use crate::trace::Trace;
+use crate::work::{Moved, State};
 use cmd_grammar::Command;
 use col_keeper::Keeper;
 use doc_paths::CollName;
@@ -28,12 +33,14 @@ use std::mem;
 use std::snapshot::Snapshot;
 use store_core::{Store, numbers_are_given_once};
 
-/// One request, as far as it has come.
+/// One request, as far as it has come. `command` and `ids` tell what it asks for and from where on ids were drawn for
+/// it, and take no memory.
 #[derive(Drop)]
 pub struct Task {
     session: u64,
-    coll: CollName,
+    coll: Option<CollName>,
     command: Snapshot<Command>,
+    ids: Snapshot<Ids>,
     trace: Trace,
     state: State,
 }
@@ -45,8 +52,55 @@ pub enum Next {
     Done,
 }
 
-/// One step of the work.
-fn advance<K: Keeper>(
+/// One step of the work on documents of which one or many are changed.
+fn advance_changes<K: Keeper>(
+    alloc: Global,
+    store: &mut Store<K>,
+    by: u64,
+    coll: &CollName,
+    state: State,
+) -> Moved
+    requires known { by < opened_in store.old.journal }
+    requires ready { IsReady state }
+    requires changes { IsChange state }
+    requires fits { AtState store.old (λ s. Fits s coll.now state) }
+    ensures steps { Steps by (K.failed store.old.keeper) (K.failed store.new.keeper) state store.old.journal store.new.journal result }
+    ensures leads { Promises store.old.start coll.now by store.old.journal store.new.journal state result }
+    ensures base { SameBase store.old store.new }
+    ensures grows { Grows (Some by) store.old.journal store.new.journal }
+    ensures faults { K.failed store.old.keeper ≤ K.failed store.new.keeper }
+    ensures work { K.called store.new.keeper ≤ K.called store.old.keeper + 1 }
+    ensures lawful { IsLawful store.new }
+{
+    match state {
+        State::Choosing { one, progress } => choose(alloc, store, by, coll, one, progress),
+        State::Changing {
+            one,
+            attempt,
+            reply,
+        } => change(alloc, store, by, coll, one, attempt, reply),
+        State::Putting { one, doc, reply } => put(alloc, store, by, coll, one, doc, reply),
+        State::Paging { many, stand } => list_more(alloc, store, by, coll, many, stand),
+        State::Trying {
+            many,
+            stand,
+            attempt,
+        } => try_one(alloc, store, by, coll, many, stand, attempt),
+        State::Retrying { many, stand, id } => {
+            look_again(alloc, store, by, coll, many, stand, id)
+        }
+        State::PuttingMany {
+            many,
+            stand,
+            doc,
+            reply,
+        } => put_one(alloc, store, by, coll, many, stand, doc, reply),
+        _ => unreachable!(),
+    }
+}
+
+/// One step of the work on a collection.
+fn advance_on<K: Keeper>(
     alloc: Global,
     store: &mut Store<K>,
     by: u64,
@@ -64,8 +118,9 @@ fn advance<K: Keeper>(
     ensures work { K.called store.new.keeper ≤ K.called store.old.keeper + 1 }
     ensures lawful { IsLawful store.new }
 {
+    store.journal_len();
     match state {
-        State::Inserting { document } => insert(alloc, store, by, coll, document),
+        State::Inserting { insertions } => insert(alloc, store, by, coll, insertions),
         State::Selecting {
             search,
             progress,
@@ -81,22 +136,59 @@ fn advance<K: Keeper>(
             last,
             shown,
         } => count(alloc, store, by, coll, wanted, last, shown),
-        State::Choosing { update, progress } => choose(alloc, store, by, coll, update, progress),
-        State::Changing { update, read, doc } => change(alloc, store, by, coll, update, read, doc),
-        State::Seeking { deletion, progress } => seek(alloc, store, by, coll, deletion, progress),
-        State::Deleting { deletion, read, id } => {
-            delete(alloc, store, by, coll, deletion, read, id)
-        }
-        State::Paging { many, stand } => list_more(alloc, store, by, coll, many, stand),
-        State::Trying {
-            many,
-            stand,
-            attempt,
-        } => try_one(alloc, store, by, coll, many, stand, attempt),
-        State::Retrying { many, stand, id } => {
-            look_again(alloc, store, by, coll, many, stand, id)
-        }
+        State::Creating => create(alloc, store, by, coll),
+        State::Dropping => drop_collection(alloc, store, by, coll),
+        State::Naming => name_all(alloc, store, by),
+        State::Unready { .. } => Moved::NoMemory,
         State::Done { reply: _ } => unreachable!(),
+        changes => advance_changes(alloc, store, by, coll, changes),
+    }
+}
+
+/// One step of the work that is on no collection.
+fn advance_outside<K: Keeper>(alloc: Global, store: &mut Store<K>, by: u64, state: State) -> Moved
+    requires known { by < opened_in store.old.journal }
+    requires ready { IsReady state }
+    requires outside { IfSome (asked state) (HasCollection None) }
+    ensures steps { Steps by (K.failed store.old.keeper) (K.failed store.new.keeper) state store.old.journal store.new.journal result }
+    ensures leads { Promises store.old.start [] by store.old.journal store.new.journal state result }
+    ensures base { SameBase store.old store.new }
+    ensures grows { Grows (Some by) store.old.journal store.new.journal }
+    ensures faults { K.failed store.old.keeper ≤ K.failed store.new.keeper }
+    ensures work { K.called store.new.keeper ≤ K.called store.old.keeper + 1 }
+    ensures lawful { IsLawful store.new }
+{
+    store.journal_len();
+    match state {
+        State::Naming => name_all(alloc, store, by),
+        State::Unready { .. } => Moved::NoMemory,
+        _ => unreachable!(),
+    }
+}
+
+/// One step of the work.
+fn advance<K: Keeper>(
+    alloc: Global,
+    store: &mut Store<K>,
+    by: u64,
+    coll: &Option<CollName>,
+    state: State,
+) -> Moved
+    requires known { by < opened_in store.old.journal }
+    requires ready { IsReady state }
+    requires collection { IfSome (asked state) (HasCollection coll.now) }
+    requires fits { AtState store.old (λ s. Fits s (name_of coll.now) state) }
+    ensures steps { Steps by (K.failed store.old.keeper) (K.failed store.new.keeper) state store.old.journal store.new.journal result }
+    ensures leads { Promises store.old.start (name_of coll.now) by store.old.journal store.new.journal state result }
+    ensures base { SameBase store.old store.new }
+    ensures grows { Grows (Some by) store.old.journal store.new.journal }
+    ensures faults { K.failed store.old.keeper ≤ K.failed store.new.keeper }
+    ensures work { K.called store.new.keeper ≤ K.called store.old.keeper + 1 }
+    ensures lawful { IsLawful store.new }
+{
+    match coll {
+        Some(coll) => advance_on(alloc, store, by, coll, state),
+        None => advance_outside(alloc, store, by, state),
     }
 }
 
@@ -105,69 +197,42 @@ fn accepted_by(state: &State) -> u64
     ensures { result ≡ accepted_by state.now }
 {
     match state {
+        State::Inserting { insertions } => insertions.ids.len() as u64,
         State::Paging { stand, .. } | State::Trying { stand, .. } | State::Retrying { stand, .. } =>
             stand.modified,
         _ => 0,
     }
 }
 
-/// The state in which a request begins.
-fn first_state(alloc: Global, moment: i64, command: Command) -> State
-    requires { IsAskable (command_tree command) }
-    ensures { Begins moment (command_tree command) result }
-{
-    match command {
-        Command::InsertOne { document } => State::Inserting { document },
-        Command::FindOne {
-            filter,
-            sort,
-            projection,
-        } => selecting(alloc, filter, sort, projection),
-        Command::Find {
-            filter,
-            sort,
-            projection,
-            limit,
-            skip,
-            page,
-        } => listing(alloc, filter, sort, projection, limit, skip, page),
-        Command::CountDocuments { filter } => State::Counting {
-            wanted: Wanted::new(alloc, filter),
-            last: None,
-            shown: 0,
-        },
-        Command::UpdateOne {
-            filter,
-            updates,
-            sort,
-        } => choosing(alloc, moment, filter, updates, sort),
-        Command::UpdateMany {
-            filter,
-            updates,
-            page,
-        } => updating_many(alloc, moment, filter, updates, page),
-        Command::DeleteOne { filter, sort } => seeking(alloc, filter, sort),
-        Command::DeleteMany { filter } => deleting_many(alloc, filter),
-    }
-}
-
 impl Task {
-    /// The task of a command on the documents of a collection, which has made no step. Where memory was wanting,
-    /// its first step says so.
-    pub fn new(alloc: Global, session: u64, coll: CollName, moment: i64, command: Command) -> Task
-        requires { IsAskable (command_tree command) }
-        ensures asked { (result.session ≡ session) × (result.coll ≡ coll) × (result.trace.moment ≡ moment) × (result.command.value ≡ command) }
+    /// The task of a command, on its collection if it has one, which has made no step. The ids that the command needs
+    /// are drawn, one for each document without `_id`, in order, and one where it may insert since none matches. Where
+    /// memory was wanting, its first step says so.
+    pub fn new(
+        alloc: Global,
+        session: u64,
+        coll: Option<CollName>,
+        moment: i64,
+        command: Command,
+        ids: &mut Ids,
+    ) -> Task
+        requires askable { IsAskable (command_tree command) }
+        requires targeted { IsTargeted coll (command_tree command) }
+        ensures asked { (result.session ≡ session) × (result.coll ≡ coll) × (result.trace.moment ≡ moment) × (result.command.value ≡ command) × (result.ids.value ≡ ids.old) }
+        ensures drawn { stream_of_ids ids.new ≡ after_drawing (draws (command_tree command)) (stream_of_ids ids.old) }
         ensures empty { result.trace.items.items ≡ [] }
-        ensures begins { Begins moment (command_tree command) result.state }
+        ensures begins { Begins (job result) result.state }
         ensures stands { (start : Option Base) (history : List Journaled) → StandsOn start history result }
     {
         let asked = Snapshot::of(&command);
+        let from = Snapshot::of(&*ids);
         Task {
             session,
             coll,
             command: asked,
+            ids: from,
             trace: Trace::new(alloc, moment),
-            state: first_state(alloc, moment, command),
+            state: first_state(alloc, moment, command, ids),
         }
     }
 
@@ -179,7 +244,7 @@ impl Task {
         ensures adds { Adds self.old.session (K.failed store.old.keeper) (K.failed store.new.keeper) store.old.journal store.new.journal self.old.trace.items.items self.new.trace.items.items }
         ensures more { result ≡ Next.More → StandsOn store.new.start store.new.journal self.new × (left self.new.state < left self.old.state) }
         ensures done { result ≡ Next.Done → IfDone self.new.state (λ reply. ForSome store.old.start (λ base.
-            IsServed base store.new.journal self.new.coll self.new.session self.new.trace.moment (command_tree self.new.command.value) self.new.trace.items.items reply)) }
+            IsServed base store.new.journal (name_of self.new.coll) self.new.session self.new.trace.moment (ids_of self.new) (command_tree self.new.command.value) self.new.trace.items.items reply)) }
         ensures base { SameBase store.old store.new }
         ensures grows { Grows (Some self.old.session) store.old.journal store.new.journal }
         ensures faults { K.failed store.old.keeper ≤ K.failed store.new.keeper }
@@ -231,22 +296,13 @@ impl Task {
             session: _,
             coll: _,
             command: _,
+            ids: _,
             trace,
             state,
         } = self;
         match state {
             State::Done { reply } => Served { reply, trace },
-            State::Inserting { .. }
-            | State::Selecting { .. }
-            | State::Listing { .. }
-            | State::Counting { .. }
-            | State::Choosing { .. }
-            | State::Changing { .. }
-            | State::Seeking { .. }
-            | State::Deleting { .. }
-            | State::Paging { .. }
-            | State::Trying { .. }
-            | State::Retrying { .. } => { unreachable!() }
+            _ => unreachable!(),
         }
     }
 }

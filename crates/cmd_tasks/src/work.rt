@@ -7,11 +7,14 @@ ghost use Rattle.cmd_grammar.specs.Commands.{IsAskableFilter};
 ghost use Rattle.cmd_tasks.specs.Wanted.{IsWanted};
 ghost use Rattle.cmd_tasks.specs.Searching.{IsFresh};
 
+use crate::ids::Ids;
+use crate::replacement::Replacement;
 use crate::trace::Item;
+use cmd_grammar::Command;
 use filter_plan::{Plan, Verdict, plan};
 use filter_tree::Filter;
 use json_tree::{Doc, DocId, Value};
-use reply_env::{Loss, Reply};
+use reply_env::{ErrorItem, Loss, Reply};
 use shred_cols::Row;
 use std::alloc::Global;
 use std::snapshot::Snapshot;
@@ -96,38 +99,60 @@ pub(crate) struct Part {
     pub(crate) page: Snapshot<Option<PageState>>,
 }
 
-/// An update that is asked for: what is searched for, what is done to the first match, the moment of the request,
-/// and the attempts that were lost so far.
+/// What makes another document of one.
 #[derive(Drop)]
-pub(crate) struct Updating {
-    pub(crate) search: Search,
-    pub(crate) updates: Updates,
-    pub(crate) moment: i64,
-    pub(crate) lost: Vec<Loss>,
+pub(crate) enum Making {
+    Updates { updates: Updates, moment: i64 },
+    Replacement { document: Replacement },
 }
 
-/// A deletion that is asked for: what is searched for, of which the first match is deleted, and the attempts that were
-/// lost so far.
-#[derive(Drop)]
-pub(crate) struct Deletion {
-    pub(crate) search: Search,
-    pub(crate) lost: Vec<Loss>,
-}
-
-/// What is done to each document that matches.
+/// What is done to a document that matches. Where none does, one may be inserted, for which there is an id.
 #[derive(Drop)]
 pub(crate) enum Doing {
-    Updates { updates: Updates, moment: i64 },
+    Makes {
+        making: Making,
+        upsert: Option<DocId>,
+    },
     Deletes,
 }
 
+/// How the document is told that was asked for: by counts, or also as it is shown, as it was found or as it was left.
+#[derive(Drop)]
+pub(crate) enum Form {
+    ByCounts,
+    Shows { projection: Projection, after: bool },
+}
+
+/// One document that is to be changed: what is searched for, what is done to the first match, how it is told, and the
+/// attempts that were lost so far.
+#[derive(Drop)]
+pub(crate) struct One {
+    pub(crate) search: Search,
+    pub(crate) doing: Doing,
+    pub(crate) form: Form,
+    pub(crate) lost: Vec<Loss>,
+}
+
+/// Documents that are to be inserted, in order. `all` are all of the request, the last first, and takes no memory;
+/// `left` are those of them that come next, the last first; `ids` are those that were inserted, and `errors` tell those
+/// whose ids were there.
+#[derive(Drop)]
+pub(crate) struct Insertions {
+    pub(crate) all: Snapshot<Vec<Value>>,
+    pub(crate) left: Vec<Value>,
+    pub(crate) ordered: bool,
+    pub(crate) ids: Vec<DocId>,
+    pub(crate) errors: Vec<ErrorItem>,
+}
+
 /// Many documents that are to be updated or deleted. `given` is how many were counted before the page that `page`
-/// tells, which takes no memory.
+/// tells, which takes no memory; where it tells none, this is the first page.
 #[derive(Drop)]
 pub(crate) struct Many {
     pub(crate) wanted: Wanted,
     pub(crate) doing: Doing,
     pub(crate) given: u64,
+    pub(crate) is_first: bool,
     pub(crate) page: Snapshot<Option<PageState>>,
 }
 
@@ -153,11 +178,12 @@ pub(crate) struct Attempt {
     pub(crate) change: Change,
 }
 
-/// What is to be done next.
+/// What is to be done next. Where a write comes next, the reply that tells it is at hand. `Unready` is a request for
+/// which memory was wanting at its beginning: it tells of what, and takes no memory.
 #[derive(Drop)]
 pub(crate) enum State {
     Inserting {
-        document: Value,
+        insertions: Insertions,
     },
     Selecting {
         search: Search,
@@ -175,22 +201,18 @@ pub(crate) enum State {
         shown: u64,
     },
     Choosing {
-        update: Updating,
+        one: One,
         progress: Progress,
     },
     Changing {
-        update: Updating,
-        read: u64,
+        one: One,
+        attempt: Attempt,
+        reply: Reply,
+    },
+    Putting {
+        one: One,
         doc: Doc,
-    },
-    Seeking {
-        deletion: Deletion,
-        progress: Progress,
-    },
-    Deleting {
-        deletion: Deletion,
-        read: u64,
-        id: DocId,
+        reply: Reply,
     },
     Paging {
         many: Many,
@@ -205,6 +227,20 @@ pub(crate) enum State {
         many: Many,
         stand: Stand,
         id: DocId,
+    },
+    PuttingMany {
+        many: Many,
+        stand: Stand,
+        doc: Doc,
+        reply: Reply,
+    },
+    Creating,
+    Dropping,
+    Naming,
+    Unready {
+        command: Snapshot<Command>,
+        moment: i64,
+        ids: Snapshot<Ids>,
     },
     Done {
         reply: Reply,

@@ -109,11 +109,12 @@ made_all count collections (Some t) =
     let whole : take (length (missed collections t)) (missed collections t) ≡ missed collections t = take-length (missed collections t) in
     (length (missed collections t), ap Some (back ∙ ap (λ (names : List (List ℕ)). with_names names t) (sym whole)))
 
-module _ {K : Type 0} (tables : K → Option Tables) (failed : K → ℕ) (words : List (List ℕ)) (given kept : K) (keyspace : List ℕ) (collections : List (List ℕ)) (store : Stored K) (times : Option (List ℤ))
+module _ {K : Type 0} (tables : K → Option Tables) (failed : K → ℕ) (words : List (List ℕ)) (given kept : K) (keyspace seed : List ℕ) (collections : List (List ℕ)) (store : Stored K) (times : Option (List ℤ))
     (asked : RunsOn words keyspace collections) (begins : (store.journal ≡ []) × (store.keeper ≡ store.base)) (made : tables store.base ≡ option_map (opened_with collections) (tables given))
-    (start : store.start ≡ option_map (start_of (failed store.base)) (tables store.base)) (grows : failed given ≤ failed store.base) where
+    (start : store.start ≡ option_map (start_of (failed store.base)) (tables store.base)) (first : ForSome (tables given) (λ t. (store.first ≡ t.last + 1) × (would_live collections t ≤ 100)))
+    (grows : failed given ≤ failed store.base) where
   module _ (from to : Reading) (before after : Writing) (how : RunHow) (Ended : (List (List ℕ) → List ℕ → Type 0) → Type 0) where
-    runs_so : ((P : List (List ℕ) → List ℕ → Type 0) → EndsRun P from to before after how → Ended P) → EndsStore tables failed keyspace store times kept from to before after how → Runs tables failed words given kept times Ended
+    runs_so : ((P : List (List ℕ) → List ℕ → Type 0) → EndsRun P from to before after how → Ended P) → EndsStore tables failed keyspace seed store times kept from to before after how → Runs tables failed words given kept seed times Ended
     runs_so so e = record {
       keyspace = keyspace;
       collections = collections;
@@ -122,12 +123,14 @@ module _ {K : Type 0} (tables : K → Option Tables) (failed : K → ℕ) (words
       counts = grows;
       start = store.start;
       start_is = start ∙ told_start (failed store.base) collections (tables store.base) (tables given) made;
+      first = store.first;
+      first_is = λ t told. (first t told).0;
       history = e.history;
       traces = e.traces;
       later = e.later;
       ended =
-          subst (λ (k : K). Ended (ServesLines keyspace store.start (record { journal = []; failed = failed k; traces = []; times = times }) (record { journal = e.history; failed = failed kept; traces = e.traces; times = e.later }))) begins.1
-          (subst (λ (h : List Entry). Ended (ServesLines keyspace store.start (record { journal = h; failed = failed store.keeper; traces = []; times = times }) (record { journal = e.history; failed = failed kept; traces = e.traces; times = e.later }))) begins.0 (so _ e.ended));
+          subst (λ (k : K). Ended (ServesLines keyspace seed store.start store.first (record { journal = []; failed = failed k; traces = []; times = times }) (record { journal = e.history; failed = failed kept; traces = e.traces; times = e.later }))) begins.1
+          (subst (λ (h : List Entry). Ended (ServesLines keyspace seed store.start store.first (record { journal = h; failed = failed store.keeper; traces = []; times = times }) (record { journal = e.history; failed = failed kept; traces = e.traces; times = e.later }))) begins.0 (so _ e.ended));
       tables_are = e.tables_are;
     }
 
@@ -148,41 +151,41 @@ module _ {K : Type 0} (tables : K → Option Tables) (failed : K → ℕ) (words
 
   -- how it ended, and that it did, or that no session was opened
   module _ {S W : Type 0} (source source' : S) (sink sink' : W) (from to : Reading) (before after : Writing) (status : ℕ) (how : RunHow) (is : status ≡ status_of how)
-      (ran : EndsStore tables failed keyspace store times kept from to before after how ⊎ ((how ≡ NoMemory) × (source' ≡ source) × (sink' ≡ sink) × (tables kept ≡ option_map (λ s. tables_of (replay s store.journal)) store.start))) where
-    begun : (n : ℕ) → (9 ≡ n → ⊥) → status ≡ n → EndsStore tables failed keyspace store times kept from to before after how
+      (ran : EndsStore tables failed keyspace seed store times kept from to before after how ⊎ ((how ≡ NoMemory) × (source' ≡ source) × (sink' ≡ sink) × (tables kept ≡ option_map (λ s. tables_of (replay s store.journal)) store.start))) where
+    begun : (n : ℕ) → (9 ≡ n → ⊥) → status ≡ n → EndsStore tables failed keyspace seed store times kept from to before after how
     begun n other e = did_begin ran
       where
-        did_begin : EndsStore tables failed keyspace store times kept from to before after how ⊎ ((how ≡ NoMemory) × (source' ≡ source) × (sink' ≡ sink) × (tables kept ≡ option_map (λ s. tables_of (replay s store.journal)) store.start)) → EndsStore tables failed keyspace store times kept from to before after how
+        did_begin : EndsStore tables failed keyspace seed store times kept from to before after how ⊎ ((how ≡ NoMemory) × (source' ≡ source) × (sink' ≡ sink) × (tables kept ≡ option_map (λ s. tables_of (replay s store.journal)) store.start)) → EndsStore tables failed keyspace seed store times kept from to before after how
         did_begin (inl e') = e'
         did_begin (inr none) = absurd (other (sym (ap status_of none.0) ∙ sym is ∙ e))
 
     status_is : (n : ℕ) → status ≡ n → status_of how ≡ n
     status_is n e = sym is ∙ e
 
-    pub ran_whole : status ≡ 0 → Runs tables failed words given kept times (λ Served. ServesInput Served from to before after)
+    pub ran_whole : status ≡ 0 → Runs tables failed words given kept seed times (λ Served. ServesInput Served from to before after)
     ran_whole e = runs_so from to before after how (λ Served. ServesInput Served from to before after) (λ P. when_done P from to before after how (status_is 0 e)) (begun 0 (λ n. Prim.cc n) e)
 
-    pub ran_unread : status ≡ 2 → Runs tables failed words given kept times (λ Served. (count : ℕ) × (count < 2 ^ 40) × ServesWholeLines Served from to before after count)
+    pub ran_unread : status ≡ 2 → Runs tables failed words given kept seed times (λ Served. (count : ℕ) × (count < 2 ^ 40) × ServesWholeLines Served from to before after count)
     ran_unread e = runs_so from to before after how (λ Served. (count : ℕ) × (count < 2 ^ 40) × ServesWholeLines Served from to before after count) (λ P. when_unread P from to before after how (status_is 2 e)) (begun 2 (λ n. Prim.cc n) e)
 
-    pub ran_unwritten : status ≡ 3 → Runs tables failed words given kept times (λ Served. ServesCut Served from to before after)
+    pub ran_unwritten : status ≡ 3 → Runs tables failed words given kept seed times (λ Served. ServesCut Served from to before after)
     ran_unwritten e = runs_so from to before after how (λ Served. ServesCut Served from to before after) (λ P. when_unwritten P from to before after how (status_is 3 e)) (begun 3 (λ n. Prim.cc n) e)
 
-    pub ran_long : status ≡ 5 → Runs tables failed words given kept times (λ Served. ServesWholeLines Served from to before after (2 ^ 40))
+    pub ran_long : status ≡ 5 → Runs tables failed words given kept seed times (λ Served. ServesWholeLines Served from to before after (2 ^ 40))
     ran_long e = runs_so from to before after how (λ Served. ServesWholeLines Served from to before after (2 ^ 40)) (λ P. when_long P from to before after how (status_is 5 e)) (begun 5 (λ n. Prim.cc n) e)
 
-    pub ran_wrong : (Noted : List ℕ → Type 0) → Noted (note_of how) → status ≡ 6 → (line : ℕ) × Noted (line_note line) × Runs tables failed words given kept times (λ Served. ServesBefore Served from to before after line)
+    pub ran_wrong : (Noted : List ℕ → Type 0) → Noted (note_of how) → status ≡ 6 → (line : ℕ) × Noted (line_note line) × Runs tables failed words given kept seed times (λ Served. ServesBefore Served from to before after line)
     ran_wrong Noted noted e = (
       line_of how,
       subst Noted (note_of_line how (status_is 6 e)) noted,
       runs_so from to before after how (λ Served. ServesBefore Served from to before after (line_of how)) (λ P. when_wrong P from to before after how (status_is 6 e)) (begun 6 (λ n. Prim.cc n) e),
     )
 
-    pub ran_short : status ≡ 9 → ((source' ≡ source) × (sink' ≡ sink) × ServesNone tables failed words given kept) ⊎ Runs tables failed words given kept times (λ Served. ServesFirst Served from to before after)
+    pub ran_short : status ≡ 9 → ((source' ≡ source) × (sink' ≡ sink) × ServesNone tables failed words given kept) ⊎ Runs tables failed words given kept seed times (λ Served. ServesFirst Served from to before after)
     ran_short e = short ran
       where
-        short : EndsStore tables failed keyspace store times kept from to before after how ⊎ ((how ≡ NoMemory) × (source' ≡ source) × (sink' ≡ sink) × (tables kept ≡ option_map (λ s. tables_of (replay s store.journal)) store.start))
-            → ((source' ≡ source) × (sink' ≡ sink) × ServesNone tables failed words given kept) ⊎ Runs tables failed words given kept times (λ Served. ServesFirst Served from to before after)
+        short : EndsStore tables failed keyspace seed store times kept from to before after how ⊎ ((how ≡ NoMemory) × (source' ≡ source) × (sink' ≡ sink) × (tables kept ≡ option_map (λ s. tables_of (replay s store.journal)) store.start))
+            → ((source' ≡ source) × (sink' ≡ sink) × ServesNone tables failed words given kept) ⊎ Runs tables failed words given kept seed times (λ Served. ServesFirst Served from to before after)
         short (inl e') = inr (runs_so from to before after how (λ Served. ServesFirst Served from to before after) (λ P. when_short P from to before after how (status_is 9 e)) e')
         short (inr none) = inl (none.1, none.2, inr (none_served none.3))
 
@@ -238,24 +241,24 @@ opened_few words keyspace₁ keyspace₂ cs ds tables status a b few t told over
 
 -- ---- a run on a store, and what its keeper is then
 
-module _ {K : Type 0} (tables : K → Option Tables) (failed : K → ℕ) (keyspace : List ℕ) (old new : Stored K) (times later : Option (List ℤ)) (kept : K) (from to : Reading) (before after : Writing) (how : RunHow) (back : kept ≡ new.keeper)
+module _ {K : Type 0} (tables : K → Option Tables) (failed : K → ℕ) (keyspace seed : List ℕ) (old new : Stored K) (times later : Option (List ℤ)) (kept : K) (from to : Reading) (before after : Writing) (how : RunHow) (back : kept ≡ new.keeper)
     (tables_are : tables kept ≡ option_map (λ s. tables_of (replay s new.journal)) new.start) (base : new.start ≡ old.start) where
-  pub store_ends : (traces : List Trace) → EndsRun (ServesLines keyspace old.start (record { journal = old.journal; failed = failed old.keeper; traces = []; times = times }) (record { journal = new.journal; failed = failed new.keeper; traces = traces; times = later })) from to before after how
-      → EndsStore tables failed keyspace old times kept from to before after how
+  pub store_ends : (traces : List Trace) → EndsRun (ServesLines keyspace seed old.start old.first (record { journal = old.journal; failed = failed old.keeper; traces = []; times = times }) (record { journal = new.journal; failed = failed new.keeper; traces = traces; times = later })) from to before after how
+      → EndsStore tables failed keyspace seed old times kept from to before after how
   store_ends traces ended = record {
     history = new.journal;
     traces = traces;
     later = later;
     ended =
-        subst (λ (k : K). EndsRun (ServesLines keyspace old.start (record { journal = old.journal; failed = failed old.keeper; traces = []; times = times }) (record { journal = new.journal; failed = failed k; traces = traces; times = later })) from to before after how)
+        subst (λ (k : K). EndsRun (ServesLines keyspace seed old.start old.first (record { journal = old.journal; failed = failed old.keeper; traces = []; times = times }) (record { journal = new.journal; failed = failed k; traces = traces; times = later })) from to before after how)
         (sym back) ended;
     tables_are = tables_are ∙ ap (option_map (λ s. tables_of (replay s new.journal))) base;
   }
 
   pub store_ran : (Kept : List Trace → Type 0) (None_kept Same_source Same_sink : Type 0)
-      → ((traces : List Trace) × Kept traces × EndsRun (ServesLines keyspace old.start (record { journal = old.journal; failed = failed old.keeper; traces = []; times = times }) (record { journal = new.journal; failed = failed new.keeper; traces = traces; times = later })) from to before after how)
+      → ((traces : List Trace) × Kept traces × EndsRun (ServesLines keyspace seed old.start old.first (record { journal = old.journal; failed = failed old.keeper; traces = []; times = times }) (record { journal = new.journal; failed = failed new.keeper; traces = traces; times = later })) from to before after how)
       ⊎ ((how ≡ NoMemory) × None_kept × (new.journal ≡ old.journal) × Same_source × Same_sink)
-      → EndsStore tables failed keyspace old times kept from to before after how ⊎ ((how ≡ NoMemory) × Same_source × Same_sink × (tables kept ≡ option_map (λ s. tables_of (replay s old.journal)) old.start))
+      → EndsStore tables failed keyspace seed old times kept from to before after how ⊎ ((how ≡ NoMemory) × Same_source × Same_sink × (tables kept ≡ option_map (λ s. tables_of (replay s old.journal)) old.start))
   store_ran Kept None_kept Same_source Same_sink (inl e) = inl (store_ends e.0 e.2)
   store_ran Kept None_kept Same_source Same_sink (inr none) = inr (
     none.0,

@@ -1,3 +1,4 @@
 pub mod Notes
 pub mod Choosing
 pub mod Ending
+pub mod Completing

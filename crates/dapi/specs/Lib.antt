@@ -3,3 +3,4 @@ pub mod Chosen
 pub mod Note
 pub mod Ended
 pub mod Top
+pub mod Complete

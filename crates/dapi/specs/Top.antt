@@ -1,5 +1,5 @@
 -- What a run makes of the keeper that it is given.
-use Rattle.std.specs.Prelude.{◌≡◌, ◌⊎◌, ℕ, ℤ, ◌≤◌, ◌<◌, List, [], Option}
+use Rattle.std.specs.Prelude.{◌≡◌, ◌⊎◌, ℕ, ℤ, ◌+◌, ◌≤◌, ◌<◌, List, [], Option}
 use Rattle.std.specs.Option.{option_map, ForSome}
 use Rattle.col_keeper.specs.Tables.{Tables}
 use Rattle.store_core.specs.State.{State, start_of, tables_of}
@@ -12,8 +12,9 @@ use Rattle.dapi.specs.Words.{RunsOn}
 
 module _ {K : Type 0} (tables : K → Option Tables) (failed : K → ℕ) (words : List (List ℕ)) (given kept : K) where
   -- The store was opened over the keeper: its history begins empty at the keeper's tables, with an empty collection of each
-  -- named one that was missing, in order. It ended so, and the keeper that is handed back has the tables that its history leaves.
-  pub record Runs (times : Option (List ℤ)) (Ended : (List (List ℕ) → List ℕ → Type 0) → Type 0) : Type 0 where
+  -- named one that was missing, in order. It ended so, with ids that this seed gives, and the keeper that is handed back has
+  -- the tables that its history leaves.
+  pub record Runs (seed : List ℕ) (times : Option (List ℤ)) (Ended : (List (List ℕ) → List ℕ → Type 0) → Type 0) : Type 0 where
     pub keyspace : List ℕ
     pub collections : List (List ℕ)
     pub asked : RunsOn words keyspace collections
@@ -21,10 +22,12 @@ module _ {K : Type 0} (tables : K → Option Tables) (failed : K → ℕ) (words
     pub counts : failed given ≤ count
     pub start : Option State
     pub start_is : start ≡ option_map (λ t. start_of count (opened_with collections t)) (tables given)
+    pub first : ℕ
+    pub first_is : ForSome (tables given) (λ t. first ≡ t.last + 1)
     pub history : List Entry
     pub traces : List Trace
     pub later : Option (List ℤ)
-    pub ended : Ended (ServesLines keyspace start (record { journal = []; failed = count; traces = []; times = times }) (record { journal = history; failed = failed kept; traces = traces; times = later }))
+    pub ended : Ended (ServesLines keyspace seed start first (record { journal = []; failed = count; traces = []; times = times }) (record { journal = history; failed = failed kept; traces = traces; times = later }))
     pub tables_are : tables kept ≡ option_map (λ s. tables_of (replay s history)) start
 
   -- the store wasn't opened; of the missing collections some first ones were made, in order

@@ -2,6 +2,7 @@
 #![tactic(auto)]
 
 mod note;
+mod seed;
 #[cfg(test)]
 mod tests;
 mod top;
@@ -30,14 +31,15 @@ fn words_of(rt: HostRuntime) -> Result<Vec<String>, WordFault> {
     Ok(words)
 }
 
-// What ids are made from. None is made yet.
-const SEED: [u8; 28] = [0; 28];
-
 fn main(rt: HostRuntime) -> ExitCode {
     let mut notes = RealSink::new(rt.stderr());
     let words = match words_of(rt) {
         Ok(words) => words,
         Err(fault) => return ExitCode::from(top::refuse_words(&mut notes, fault)),
+    };
+    let seed = match seed::seed_from(&rt) {
+        Ok(seed) => seed,
+        Err(_) => return ExitCode::from(top::refuse_seed(&mut notes)),
     };
     let mut source = RealSource::new(rt.stdin());
     let mut sink = RealSink::new(rt.stdout());
@@ -51,7 +53,7 @@ fn main(rt: HostRuntime) -> ExitCode {
         &mut notes,
         keeper,
         &mut clock,
-        &SEED,
+        &seed,
     );
     ExitCode::from(status)
 }

@@ -1,18 +1,31 @@
 //! The top call on streams in memory: a table of calls, each with what it writes.
 mod changes;
+mod collections;
+mod generated;
+mod ones;
 mod pages;
+mod puts;
+mod refusals;
 mod rows;
 mod searches;
 
 use self::changes::{CHANGED, CHANGES, MANY};
+use self::collections::COLLECTIONS;
+use self::generated::GENERATED;
+use self::ones::ONES;
 use self::pages::{OPTIONS, PAGES, STATES};
+use self::puts::{INSERTIONS, UPSERTS};
+use self::refusals::REFUSALS;
 use self::rows::{DELETIONS, REQUESTS, RETURNS, STREAMS, UPDATES, WORDS};
 use self::searches::{FAULTS, FIRSTS, ORDER, REFUSED, SORTABLE, SORTED, SORTS, UNSORTABLE, VIEWS};
-use crate::top::dapi;
+use crate::seed::seed_from;
+use crate::top::{dapi, refuse_seed};
 use keeper_mem::MemKeeper;
 use outside_io::{ListClock, MemSink, MemSource};
 use std::alloc::{AllocError, Global};
 use std::fmt::Write;
+use std::io::{Error, ErrorKind, Result as IoResult};
+use std::random::RandomSource;
 use std::test::Fail;
 
 // The reads of a row that sets none give so many bytes at most. A line of an insertion of `a` has 48.
@@ -178,6 +191,14 @@ fn searches_show_what_they_have_to(rt: HostRuntime) -> Result<(), Fail> {
 }
 
 #[test]
+fn commands_do_what_they_have_to(rt: HostRuntime) -> Result<(), Fail> {
+    for rows in [REFUSALS, INSERTIONS, UPSERTS, ONES, COLLECTIONS, GENERATED] {
+        assert_eq!(rt; first_wrong_in(rt.alloc(), rows, 1000)?, "");
+    }
+    Ok(())
+}
+
+#[test]
 fn calls_write_what_they_have_to(rt: HostRuntime) -> Result<(), Fail> {
     for rows in [REQUESTS, UPDATES, DELETIONS, MANY, WORDS, STREAMS, RETURNS] {
         assert_eq!(rt; first_wrong(rt.alloc(), rows)?, "");
@@ -333,6 +354,38 @@ fn many_collections(alloc: Global) -> Result<String, Fail> {
     Ok(text)
 }
 
+// An insertion of a document of so many members behind what stands in front.
+fn add_wide(text: &mut String, front: &str, count: u32) -> Result<(), Fail> {
+    text.push_str("/v1/ks/c {\"insertOne\":{\"document\":{")?;
+    text.push_str(front)?;
+    text.push_str("\"m0\":0")?;
+    for i in 1..count {
+        write!(text, ",\"m{i}\":0")?;
+    }
+    text.push_str("}}}\n")?;
+    Ok(())
+}
+
+const WIDE: &str = r#"/v1/ks/c {"countDocuments":{}}
+=> 0
+{"status":{"insertedIds":[1]}}
+{"errors":[{"message":"Document limit 6 is 1000, found 1001","errorCode":"SHRED_DOC_LIMIT_VIOLATION"}]}
+{"status":{"insertedIds":["ef3fdfd6-c615-48fb-b5cf-35bd3dd33b80"]}}
+{"errors":[{"message":"Document limit 6 is 1000, found 1001","errorCode":"SHRED_DOC_LIMIT_VIOLATION"}]}
+{"status":{"count":2}}
+"#;
+
+// One row: an id counts among the members of a document, one that is to be generated too.
+fn wide_documents(alloc: Global) -> Result<String, Fail> {
+    let mut text = String::from_str(alloc, "run --collection=c | piece=4096\n")?;
+    add_wide(&mut text, "\"_id\":1,", 999)?;
+    add_wide(&mut text, "\"_id\":2,", 1000)?;
+    add_wide(&mut text, "", 999)?;
+    add_wide(&mut text, "", 1000)?;
+    text.push_str(WIDE)?;
+    Ok(text)
+}
+
 // One row: a body that is too long, behind a line that is answered. The read behind the one that shows it would fail.
 fn long_body(alloc: Global) -> Result<String, Fail> {
     let mut text = String::from_str(alloc, "run --collection=c | piece=60000 read=335\n")?;
@@ -348,6 +401,15 @@ fn many_are_changed_on_several_pages(rt: HostRuntime) -> Result<(), Fail> {
     let alloc = rt.alloc();
     let keeper = MemKeeper::new(alloc, Vec::new(alloc), 0);
     let text = many_changed(alloc)?;
+    assert_eq!(rt; first_wrong_over(alloc, keeper, text.as_str())?, "");
+    Ok(())
+}
+
+#[test]
+fn ids_count_among_members(rt: HostRuntime) -> Result<(), Fail> {
+    let alloc = rt.alloc();
+    let keeper = MemKeeper::new(alloc, Vec::new(alloc), 0);
+    let text = wide_documents(alloc)?;
     assert_eq!(rt; first_wrong_over(alloc, keeper, text.as_str())?, "");
     Ok(())
 }
@@ -372,5 +434,46 @@ fn many_sorted(rt: HostRuntime) -> Result<(), Fail> {
     let text = many_to_sort(alloc)?;
     let keeper = MemKeeper::new(alloc, Vec::new(alloc), 0);
     assert_eq!(rt; first_wrong_over(alloc, keeper, text.as_str())?, "");
+    Ok(())
+}
+
+// Random bytes that count up from one.
+struct Counting;
+
+impl RandomSource for Counting {
+    fn fill_bytes(&self, buf: &mut [u8]) -> IoResult<()> {
+        let mut count = 0u8;
+        for byte in buf {
+            count = count.wrapping_add(1);
+            *byte = count;
+        }
+        Ok(())
+    }
+}
+
+// A system that gives no random bytes.
+struct Refusing;
+
+impl RandomSource for Refusing {
+    fn fill_bytes(&self, _buf: &mut [u8]) -> IoResult<()> {
+        Err(Error::from(ErrorKind::Other))
+    }
+}
+
+#[test]
+fn a_seed_is_what_the_system_gives(rt: HostRuntime) -> Result<(), Fail> {
+    let alloc = rt.alloc();
+    match seed_from(&Counting) {
+        Ok(seed) => {
+            assert_eq!(rt; seed[0], 1);
+            assert_eq!(rt; seed[1], 2);
+            assert_eq!(rt; seed[27], 28);
+        }
+        Err(_) => assert!(rt; false),
+    }
+    assert!(rt; seed_from(&Refusing).is_err());
+    let mut notes = MemSink::new(alloc, 100, Vec::new(alloc))?;
+    assert_eq!(rt; refuse_seed(&mut notes), 11);
+    assert_eq!(rt; notes.bytes(), b"random fault\n".as_slice());
     Ok(())
 }

@@ -9,12 +9,16 @@ ghost use Rattle.store_core.specs.Journal.{replay};
 ghost use Rattle.api_serve.specs.Run.{ServesInput, ServesWholeLines, ServesBefore, ServesCut, ServesFirst, HasRead};
 ghost use Rattle.dapi.specs.Words.{RunsOn, IsUsage};
 ghost use Rattle.dapi.specs.Top.{Runs, FailsOpening, IsOverfull, ServesNone};
+ghost use Rattle.dapi.specs.Complete.{IsUnhindered, RunsUndisturbed};
 ghost use Rattle.dapi.specs.Note.{IsNoted, line_note, note_at, is_status, status_of, note_of, word_status, word_note, open_status, open_note};
 ghost use Rattle.dapi.specs.Ended.{EndsStore};
 
 use crate::note::{note_of, status_of, word_note, word_status, write_note};
 use crate::words::{WordFault, read};
-use api_serve::{RunEnd, RunHow, run_lines};
+use api_serve::{RunEnd, RunHow, an_input_has_one_list_of_lines, run_lines};
+use cmd_tasks::{
+    a_count_that_stays_has_no_fault, a_refused_request_blames_itself, a_session_alone_loses_nothing,
+};
 use col_keeper::Keeper;
 use outside_io::{Clock, Sink, Source};
 use std::alloc::Global;
@@ -27,6 +31,15 @@ pub fn refuse_words<E: Sink>(notes: &mut E, fault: WordFault) -> u8
 {
     write_note(notes, word_note(fault).as_str());
     word_status(fault)
+}
+
+/// Ends a call for which the system gave no random bytes: writes the note, and answers the exit status.
+pub fn refuse_seed<E: Sink>(notes: &mut E) -> u8
+    ensures status { result ≡ 11 }
+    ensures noted { IsNoted (E.writing notes.old) (E.writing notes.new) (codes "random fault\n") }
+{
+    write_note(notes, "random fault\n");
+    11
 }
 
 // Ends a call whose store couldn't be opened: writes the note, and hands the keeper back.
@@ -67,7 +80,7 @@ fn run_store<S: Source, W: Sink, E: Sink, K: Keeper, C: Clock>(
     seed: &[u8; 28],
 ) -> (u8, K)
     ensures ran { (how : RunHow) × (result.0 ≡ status_of how) × IsNoted (E.writing notes.old) (E.writing notes.new) (note_of how)
-        × (EndsStore K.tables K.failed keyspace.now store (C.times clock.old) result.1 (S.reading source.old) (S.reading source.new) (W.writing sink.old) (W.writing sink.new) how
+        × (EndsStore K.tables K.failed keyspace.now seed.now store (C.times clock.old) result.1 (S.reading source.old) (S.reading source.new) (W.writing sink.old) (W.writing sink.new) how
         ⊎ ((how ≡ RunHow.NoMemory) × (source.new ≡ source.old) × (sink.new ≡ sink.old)
         × (K.tables result.1 ≡ option_map (λ s. tables_of (replay s store.journal)) store.start))) }
     ensures bounded { (count : ℕ) × (count ≤ 2 ^ 40) × HasRead (S.reading source.old) (S.reading source.new) count }
@@ -95,8 +108,16 @@ pub fn dapi<S: Source, W: Sink, E: Sink, K: Keeper, C: Clock>(
     seed: &[u8; 28],
 ) -> (u8, K)
     // Every line was read, its request served, and the replies to all of them were written, in order, and nothing else.
-    ensures answered { result.0 ≡ 0 → Runs K.tables K.failed (map string_bytes words.now) keeper result.1 (C.times clock.old)
+    ensures answered { result.0 ≡ 0 → Runs K.tables K.failed (map string_bytes words.now) keeper result.1 seed.now (C.times clock.old)
         (λ Served. ServesInput Served (S.reading source.old) (S.reading source.new) (W.writing sink.old) (W.writing sink.new)) }
+
+    // Nobody disturbed a request: no reply tells lost writes, nor a failed call where the keeper's count of faults didn't rise.
+    ensures undisturbed { result.0 ≡ 0 → RunsUndisturbed K.tables K.failed (map string_bytes words.now) keeper result.1
+        (S.reading source.old) (S.reading source.new) (W.writing sink.old) (W.writing sink.new) seed.now (C.times clock.old) }
+
+    // Where nothing stands in the way, all is read and written, or memory ran out.
+    ensures complete { IsUnhindered K.tables K.failed (map string_bytes words.now) keeper result.1 (S.reading source.old) (S.reading source.new) (W.writing sink.old) (W.writing sink.new)
+        → (result.0 ≡ 0) ⊎ (result.0 ≡ 9) }
 
     // The words are no command's; nothing was read, written or kept.
     ensures usage { result.0 ≡ 1 → IsUsage (map string_bytes words.now) }
@@ -105,12 +126,12 @@ pub fn dapi<S: Source, W: Sink, E: Sink, K: Keeper, C: Clock>(
 
     // The source failed; the replies to the requests of all whole lines that were read stand.
     ensures read_fault { result.0 ≡ 2 → Rose (S.reading source.old).failed (S.reading source.new).failed }
-    ensures read_so_far { result.0 ≡ 2 → Runs K.tables K.failed (map string_bytes words.now) keeper result.1 (C.times clock.old)
+    ensures read_so_far { result.0 ≡ 2 → Runs K.tables K.failed (map string_bytes words.now) keeper result.1 seed.now (C.times clock.old)
         (λ Served. (count : ℕ) × (count < 2 ^ 40) × ServesWholeLines Served (S.reading source.old) (S.reading source.new) (W.writing sink.old) (W.writing sink.new) count) }
 
     // The sink failed or ended; a front of the replies to the requests of some first lines stands.
     ensures write_fault { result.0 ≡ 3 → IsHindered (W.writing sink.old) (W.writing sink.new) }
-    ensures written_so_far { result.0 ≡ 3 → Runs K.tables K.failed (map string_bytes words.now) keeper result.1 (C.times clock.old)
+    ensures written_so_far { result.0 ≡ 3 → Runs K.tables K.failed (map string_bytes words.now) keeper result.1 seed.now (C.times clock.old)
         (λ Served. ServesCut Served (S.reading source.old) (S.reading source.new) (W.writing sink.old) (W.writing sink.new)) }
 
     // The store couldn't be opened: a call of the keeper failed, or over 100 collections would live. Nothing was read or written.
@@ -123,17 +144,17 @@ pub fn dapi<S: Source, W: Sink, E: Sink, K: Keeper, C: Clock>(
         → ForSome (K.tables keeper) (λ t. 100 < would_live collections t → (result.0 ≡ 4) ⊎ (result.0 ≡ 9)) }
 
     // So many bytes were read; the replies to the requests of all whole lines among them stand.
-    ensures too_long { result.0 ≡ 5 → Runs K.tables K.failed (map string_bytes words.now) keeper result.1 (C.times clock.old)
+    ensures too_long { result.0 ≡ 5 → Runs K.tables K.failed (map string_bytes words.now) keeper result.1 seed.now (C.times clock.old)
         (λ Served. ServesWholeLines Served (S.reading source.old) (S.reading source.new) (W.writing sink.old) (W.writing sink.new) (2 ^ 40)) }
 
     // A line isn't of its form; the replies to the requests of all lines before it stand.
     ensures wrong_line { result.0 ≡ 6 → (line : ℕ) × IsNoted (E.writing notes.old) (E.writing notes.new) (line_note line)
-        × Runs K.tables K.failed (map string_bytes words.now) keeper result.1 (C.times clock.old)
+        × Runs K.tables K.failed (map string_bytes words.now) keeper result.1 seed.now (C.times clock.old)
         (λ Served. ServesBefore Served (S.reading source.old) (S.reading source.new) (W.writing sink.old) (W.writing sink.new) line) }
 
     // Memory ran out outside of a request: before anything was read or written, and the keeper has perhaps some of the missing collections more; or the replies to some first requests stand, of the last perhaps a front.
     ensures no_memory { result.0 ≡ 9 → ((source.new ≡ source.old) × (sink.new ≡ sink.old) × ServesNone K.tables K.failed (map string_bytes words.now) keeper result.1)
-        ⊎ Runs K.tables K.failed (map string_bytes words.now) keeper result.1 (C.times clock.old)
+        ⊎ Runs K.tables K.failed (map string_bytes words.now) keeper result.1 seed.now (C.times clock.old)
         (λ Served. ServesFirst Served (S.reading source.old) (S.reading source.new) (W.writing sink.old) (W.writing sink.new)) }
 
     ensures statuses { IsTrue (is_status result.0) }
@@ -146,16 +167,22 @@ pub fn dapi<S: Source, W: Sink, E: Sink, K: Keeper, C: Clock>(
         Err(fault) => return (refuse_words(notes, fault), keeper),
     };
     match Store::open(alloc, keeper, job.collections.as_slice()) {
-        Ok(store) => run_store(
-            alloc,
-            job.keyspace.text(),
-            source,
-            sink,
-            notes,
-            store,
-            clock,
-            seed,
-        ),
+        Ok(store) => {
+            an_input_has_one_list_of_lines();
+            a_session_alone_loses_nothing();
+            a_count_that_stays_has_no_fault();
+            a_refused_request_blames_itself();
+            run_store(
+                alloc,
+                job.keyspace.text(),
+                source,
+                sink,
+                notes,
+                store,
+                clock,
+                seed,
+            )
+        }
         Err(fault) => refuse_store(notes, fault),
     }
 }

@@ -4,3 +4,4 @@ pub mod Table
 pub mod Walks
 pub mod Readiness
 pub mod Written
+pub mod Asking

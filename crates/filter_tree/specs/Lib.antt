@@ -7,4 +7,5 @@ pub mod Faults
 pub mod Reads
 pub mod Finds
 pub mod Ready
+pub mod Equalities
 pub mod Rows

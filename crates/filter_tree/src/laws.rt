@@ -1,10 +1,15 @@
 // What is so of all filters, said of the values that spell them.
 ghost use Rattle.std.specs.Prelude.{◌≡◌, ◌∷◌, codes, not, true, false, List, ℕ, None};
-ghost use Rattle.std.specs.List.{list_all};
+ghost use Rattle.std.specs.List.{list_all, AllByRecursion as Each};
 ghost use Rattle.std.specs.List.Sorted.{IsPermutation};
 ghost use Rattle.json_tree.specs.Tree.{Tree, object, no_members, members_of};
 ghost use Rattle.json_tree.specs.Doc.{is_dollar};
 ghost use Rattle.json_tree.specs.Writable.{IsWritable};
+ghost use Rattle.doc_paths.specs.Text.{parts};
+ghost use Rattle.doc_paths.specs.At.{at};
+ghost use Rattle.filter_tree.specs.Filters.{FilterTree, eq};
+ghost use Rattle.filter_tree.specs.Matches.{holds, matches};
+ghost use Rattle.filter_tree.specs.Equalities.{equalities};
 ghost use Rattle.filter_tree.specs.Faults.{first_fault};
 ghost use Rattle.filter_tree.specs.Reads.{filter_in};
 ghost use Rattle.filter_tree.specs.Finds.{finds, just, asks};
@@ -36,4 +41,9 @@ pub fn operators_all_hold()
 pub fn filters_are_ready()
     ensures ready { (t : Tree) → first_fault t ≡ None → is_ready (filter_in t) ≡ true }
     ensures writable { (t : Tree) → IsWritable t → FilterIsWritable (filter_in t) }
+{}
+
+/// In every document that matches a filter, each equality that the filter asks for holds at its path.
+pub fn equalities_hold()
+    ensures { (f : FilterTree) (d : Tree) → matches f d ≡ true → Each (λ e. holds (eq e.1) (at d (parts e.0)) ≡ true) (equalities f) }
 {}

@@ -1,7 +1,7 @@
 // Filters on documents, and refused filters, worked out by hand.
-use crate::{Filter, FilterFault};
+use crate::{Equality, Filter, FilterFault};
 use json_text::read_value;
-use json_tree::Doc;
+use json_tree::{Doc, Items, Value};
 use std::alloc::Global;
 use std::test::Fail;
 
@@ -376,6 +376,66 @@ fn refuses_row(alloc: Global, row: &str) -> bool {
 fn first_faults_are_told(rt: HostRuntime) -> Result<(), Fail> {
     for row in REFUSED.split('\n') {
         assert!(rt; refuses_row(rt.alloc(), row), "{row}");
+    }
+    Ok(())
+}
+
+// Filters, each with the equalities that it asks for, in order: of each an object of its path and operand.
+const ASKED: &str = r#"{} => []
+{"a":1,"b.c":"x"} => [{"a":1},{"b.c":"x"}]
+{"_id":"k","n":null,"o":{},"l":[1,2]} => [{"_id":"k"},{"n":null},{"o":{}},{"l":[1,2]}]
+{"at":{"$date":5}} => [{"at":{"$date":5}}]
+{"a":{"$gt":0,"$eq":1,"$exists":true},"b":{"$ne":1}} => [{"a":1}]
+{"$and":[{"a":1},{"$and":[{"b":2},{"a":{"$eq":3}}]}],"c":[]} => [{"a":1},{"b":2},{"a":3},{"c":[]}]
+{"$or":[{"a":1}],"b":2} => [{"b":2}]
+{"$not":{"$not":{"a":1}}} => []
+{"a":{"$in":[1]},"b":{"$all":[1]},"c":{"$gte":1,"$lte":1},"d":{"$size":1}} => []"#;
+
+fn is_asked(equality: &Equality<'_>, wanted: &Value) -> bool {
+    let Value::Object(members) = wanted else {
+        return false;
+    };
+    let Some((path, operand)) = members.pair(0) else {
+        return false;
+    };
+    equality.path.text() == path.as_str() && equality.operand.same(operand)
+}
+
+fn are_asked(equalities: &[Equality<'_>], wanted: &Items) -> bool {
+    if equalities.len() != wanted.len() {
+        return false;
+    }
+    for i in 0..equalities.len() {
+        let Some(wanted) = wanted.get(i) else {
+            return false;
+        };
+        if !is_asked(&equalities[i], wanted) {
+            return false;
+        }
+    }
+    true
+}
+
+fn asks_row(alloc: Global, row: &str) -> bool {
+    let Some((text, wanted)) = row.split_once(" => ") else {
+        return false;
+    };
+    let Ok(filter) = filter_of(alloc, text) else {
+        return false;
+    };
+    let Ok(Value::List(wanted)) = read_value(alloc, wanted.as_bytes()) else {
+        return false;
+    };
+    match filter.equalities(alloc) {
+        Ok(equalities) => are_asked(&equalities, &wanted),
+        Err(_) => false,
+    }
+}
+
+#[test]
+fn equalities_are_asked(rt: HostRuntime) -> Result<(), Fail> {
+    for row in ASKED.split('\n') {
+        assert!(rt; asks_row(rt.alloc(), row), "{row}");
     }
     Ok(())
 }

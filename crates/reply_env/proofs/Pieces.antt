@@ -14,7 +14,7 @@ part_more f xs i d before here after within so_far now =
 pub with_comma : (here comma after part : List ℕ) → comma ≡ here ++ 44 ∷ [] → after ≡ comma ++ part → after ≡ here ++ 44 ∷ part
 with_comma here comma after part p q = q ∙ ap (λ bytes. bytes ++ part) p ∙ append_assoc here (44 ∷ []) part
 
-two_pieces : (before one two a b : List ℕ) → one ≡ before ++ a → two ≡ one ++ b → two ≡ before ++ (a ++ b)
+pub two_pieces : (before one two a b : List ℕ) → one ≡ before ++ a → two ≡ one ++ b → two ≡ before ++ (a ++ b)
 two_pieces before one two a b p q = q ∙ ap (λ xs. xs ++ b) p ∙ append_assoc before a b
 
 pub three_pieces : (before one two three a b c : List ℕ) → one ≡ before ++ a → two ≡ one ++ b → three ≡ two ++ c → three ≡ before ++ (a ++ b ++ c)
@@ -31,3 +31,8 @@ pub six_pieces : (before one two three four five six a b c d e f : List ℕ) →
     → six ≡ before ++ (a ++ b ++ c ++ d ++ e ++ f)
 six_pieces before one two three four five six a b c d e f p q r s t u =
     two_pieces before five six (a ++ b ++ c ++ d ++ e) f (five_pieces before one two three four five a b c d e p q r s t) u
+
+pub seven_pieces : (before one two three four five six seven a b c d e f g : List ℕ) → one ≡ before ++ a → two ≡ one ++ b → three ≡ two ++ c → four ≡ three ++ d → five ≡ four ++ e → six ≡ five ++ f → seven ≡ six ++ g
+    → seven ≡ before ++ (a ++ b ++ c ++ d ++ e ++ f ++ g)
+seven_pieces before one two three four five six seven a b c d e f g p q r s t u v =
+    two_pieces before six seven (a ++ b ++ c ++ d ++ e ++ f) g (six_pieces before one two three four five six a b c d e f p q r s t u) v

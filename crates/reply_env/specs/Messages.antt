@@ -5,7 +5,7 @@ use Rattle.json_tree.specs.Tree.{Tree}
 use Rattle.json_text.specs.Print.{text_of}
 use Rattle.json_text.specs.declared.read.TextFault.{TextFault}
 use Rattle.json_text.specs.declared.read.TextFault.TheVariants.{Syntax, NotUtf8, TooDeep, Number, NoMemory}
-use Rattle.name_tables.specs.declared.code.Code.TheVariants.{InvalidJson, NoCommandMatched, CommandFieldInvalid, InvalidFilterExpression, UnsupportedFilterOperation, UnsupportedUpdateOperation, UnsupportedUpdateOperationParam, UnsupportedUpdateForDocId, UnsupportedUpdateOperationTarget, ShredBadDocidType, ShredBadDocidEmptyString, ShredDocKeyNameViolation, ShredDocLimitViolation, NumberOutOfRange, UnsupportedProjectionParam, InvalidSortClause, InvalidPageState, DatasetTooBig, CommandLimitViolation, DocumentAlreadyExists, CollectionNotExist, InvalidCollectionName, KeyspaceNotExist, ConcurrencyFailure, StoreFault, VersionsSpent, OutOfMemory}
+use Rattle.name_tables.specs.declared.code.Code.TheVariants.{InvalidJson, NoCommandMatched, CommandFieldInvalid, InvalidFilterExpression, UnsupportedFilterOperation, UnsupportedUpdateOperation, UnsupportedUpdateOperationParam, UnsupportedUpdateForDocId, UnsupportedUpdateOperationTarget, ShredBadDocidType, ShredBadDocidEmptyString, ShredDocKeyNameViolation, ShredDocLimitViolation, NumberOutOfRange, UnsupportedProjectionParam, InvalidSortClause, InvalidPageState, DatasetTooBig, CommandLimitViolation, DocumentAlreadyExists, CollectionNotExist, InvalidCollectionName, TooManyCollections, KeyspaceNotExist, ConcurrencyFailure, StoreFault, VersionsSpent, OutOfMemory}
 use Rattle.reply_env.specs.declared.reply.ErrorItem.{ErrorItem}
 use Rattle.reply_env.specs.declared.update_errors.Loss.{Loss}
 
@@ -142,6 +142,10 @@ already_exists id tx = record { code = DocumentAlreadyExists; message = codes "D
 
 abbrev pub no_collection : List ℕ → ErrorItem
 no_collection name = record { code = CollectionNotExist; message = codes "Collection " ++ name ++ codes " does not exist" }
+
+-- as many collections live as may
+abbrev pub too_many_collections : ErrorItem
+too_many_collections = record { code = TooManyCollections; message = codes "At most 100 collections" }
 
 -- the keeper's count of faults before and after the call that failed
 abbrev pub store_fault : ℕ → ℕ → ErrorItem

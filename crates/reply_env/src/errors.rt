@@ -334,6 +334,13 @@ pub fn no_collection(alloc: Global, name: &str) -> Result<ErrorItem, ReplyFault>
     )
 }
 
+/// As many collections live as may.
+pub fn too_many_collections(alloc: Global) -> Result<ErrorItem, ReplyFault>
+    ensures { IfOk result (λ e. e ≡ errors.too_many_collections) }
+{
+    in_words(alloc, Code::TooManyCollections, "At most 100 collections")
+}
+
 /// The store's keeper failed: its count of faults before and after the call.
 pub fn store_fault(alloc: Global, before: u64, after: u64) -> Result<ErrorItem, ReplyFault>
     ensures { IfOk result (λ e. e ≡ errors.store_fault before after) }

@@ -5,6 +5,7 @@ mod errors;
 mod fault;
 mod fixed;
 mod print;
+mod print_parts;
 mod reply;
 mod request;
 mod update_errors;
@@ -13,7 +14,8 @@ mod view_errors;
 pub use errors::{
     already_exists, bad_collection_name, bad_field, bad_filter, bad_id_kind, bad_member_name,
     bad_option, broken_limit, empty_id, many_operands, no_collection, no_command,
-    no_filter_operator, no_keyspace, out_of_memory, store_fault, unread, versions_spent,
+    no_filter_operator, no_keyspace, out_of_memory, store_fault, too_many_collections, unread,
+    versions_spent,
 };
 pub use fault::ReplyFault;
 pub use fixed::{FixedText, no_memory_reply};

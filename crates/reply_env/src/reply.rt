@@ -43,16 +43,20 @@ pub enum Reply {
         count: u64,
         more: bool,
     },
-    /// So many documents matched, and so many of them were changed.
+    /// So many documents matched, and so many of them were changed; `upserted` is the id of the document that was
+    /// inserted where none matched.
     Updated {
         matched: u64,
         modified: u64,
+        upserted: Option<DocId>,
     },
-    /// So many of the documents that were taken matched, and so many of them were changed; `state`, which names where
-    /// the next page begins, is there only where more matched.
+    /// So many of the documents that were taken matched, and so many of them were changed; `upserted` is the id of the
+    /// document that was inserted where none matched; `state`, which names where the next page begins, is there only
+    /// where more matched.
     UpdatedMany {
         matched: u64,
         modified: u64,
+        upserted: Option<DocId>,
         state: Option<Text>,
     },
     /// So many documents were deleted.
@@ -63,6 +67,24 @@ pub enum Reply {
     DeletedMany {
         deleted: u64,
         more: bool,
+    },
+    /// The document that was looked for and changed, as it is shown, with the counts of an update.
+    FoundAndChanged {
+        view: Option<Value>,
+        matched: u64,
+        modified: u64,
+        upserted: Option<DocId>,
+    },
+    /// The document that was looked for and deleted, as it was found and is shown, with the count of a deletion.
+    FoundAndDeleted {
+        view: Option<Value>,
+        deleted: u64,
+    },
+    /// What was asked for is so: the collection lives, or doesn't.
+    Done,
+    /// The names of the collections, in order of creation.
+    Names {
+        names: Vec<Text>,
     },
     /// `so_far` is there exactly where the request made an accepted write.
     Refused {

@@ -37,7 +37,7 @@ fn ids(alloc: Global) -> Result<Vec<DocId>, Fail> {
 
 fn errors(alloc: Global) -> Result<Vec<ErrorItem>, Fail> {
     let mut errors = Vec::new(alloc);
-    errors.push(bad_field(alloc, "\u{1}\"\\/é")?)?;
+    errors.push(bad_field(alloc, ESCAPED)?)?;
     errors.push(no_command(alloc)?)?;
     Ok(errors)
 }
@@ -49,32 +49,48 @@ fn refused(alloc: Global, so_far: Option<SoFar>) -> Result<Reply, Fail> {
     })
 }
 
-const TEXTS: [&str; 24] = [
-    r#"{"status":{"insertedIds":["a",2]}}"#,
+const TEXTS: [&str; 36] = [
     r#"{"data":{"document":{"_id":"a","n":1.5}}}"#,
     r#"{"data":{"document":null}}"#,
-    r#"{"status":{"count":0}}"#,
-    r#"{"status":{"count":1000,"moreData":true}}"#,
-    r#"{"errors":[{"message":"No command matched","errorCode":"NO_COMMAND_MATCHED"}]}"#,
-    r#"{"status":{"insertedIds":["a",2]},"errors":[{"message":"Command field invalid: \u0001\"\\/é","errorCode":"COMMAND_FIELD_INVALID"},{"message":"No command matched","errorCode":"NO_COMMAND_MATCHED"}]}"#,
-    r#"{"status":{"matchedCount":3,"modifiedCount":2},"errors":[{"message":"Command field invalid: \u0001\"\\/é","errorCode":"COMMAND_FIELD_INVALID"},{"message":"No command matched","errorCode":"NO_COMMAND_MATCHED"}]}"#,
-    r#"{"status":{"deletedCount":18446744073709551615},"errors":[{"message":"Command field invalid: \u0001\"\\/é","errorCode":"COMMAND_FIELD_INVALID"},{"message":"No command matched","errorCode":"NO_COMMAND_MATCHED"}]}"#,
-    r#"{"status":{"matchedCount":1,"modifiedCount":0}}"#,
     r#"{"data":{"documents":[],"nextPageState":null}}"#,
     r#"{"data":{"documents":[],"nextPageState":"AQAAAAAAAAAoAW9yZGVyLTEwMDE="}}"#,
     r#"{"data":{"documents":[{"_id":"a","n":1.5}],"nextPageState":null}}"#,
     r#"{"data":{"documents":[{"_id":"a","n":1.5}],"nextPageState":"\u0001\"\\/é"}}"#,
     r#"{"data":{"documents":[{"_id":"a","n":1.5},{},{"_id":"a","n":1.5}],"nextPageState":null}}"#,
     r#"{"data":{"documents":[{"_id":"a","n":1.5},{},{"_id":"a","n":1.5}],"nextPageState":""}}"#,
+    r#"{"data":{"document":{"_id":"a","n":1.5}},"status":{"matchedCount":1,"modifiedCount":0}}"#,
+    r#"{"data":{"document":{"_id":"a","n":1.5}},"status":{"matchedCount":0,"modifiedCount":0,"upsertedId":"a"}}"#,
+    r#"{"data":{"document":null},"status":{"matchedCount":0,"modifiedCount":0,"upsertedId":"\u0001\"\\/é"}}"#,
+    r#"{"data":{"document":{"_id":"a","n":1.5}},"status":{"deletedCount":1}}"#,
+    r#"{"data":{"document":null},"status":{"deletedCount":0}}"#,
+    r#"{"status":{"insertedIds":["a",2]}}"#,
+    r#"{"status":{"count":0}}"#,
+    r#"{"status":{"count":1000,"moreData":true}}"#,
+    r#"{"status":{"matchedCount":1,"modifiedCount":0}}"#,
+    r#"{"status":{"matchedCount":0,"modifiedCount":0,"upsertedId":"a"}}"#,
     r#"{"status":{"matchedCount":18446744073709551615,"modifiedCount":0}}"#,
     r#"{"status":{"matchedCount":20,"modifiedCount":19,"moreData":true,"nextPageState":"AQAAAAAAAAAoAW9yZGVyLTEwMDE="}}"#,
     r#"{"status":{"matchedCount":20,"modifiedCount":0,"moreData":true,"nextPageState":"\u0001\"\\/é"}}"#,
+    r#"{"status":{"matchedCount":0,"modifiedCount":0,"upsertedId":"a"}}"#,
+    r#"{"status":{"matchedCount":0,"modifiedCount":0,"upsertedId":"a","moreData":true,"nextPageState":""}}"#,
     r#"{"status":{"deletedCount":1}}"#,
     r#"{"status":{"deletedCount":0}}"#,
     r#"{"status":{"deletedCount":20,"moreData":true}}"#,
+    r#"{"status":{"ok":1}}"#,
+    r#"{"status":{"collections":[]}}"#,
+    r#"{"status":{"collections":["order"]}}"#,
+    r#"{"status":{"collections":["order","\u0001\"\\/é"]}}"#,
+    r#"{"errors":[{"message":"No command matched","errorCode":"NO_COMMAND_MATCHED"}]}"#,
+    r#"{"status":{"insertedIds":["a",2]},"errors":[{"message":"Command field invalid: \u0001\"\\/é","errorCode":"COMMAND_FIELD_INVALID"},{"message":"No command matched","errorCode":"NO_COMMAND_MATCHED"}]}"#,
+    r#"{"status":{"matchedCount":3,"modifiedCount":2},"errors":[{"message":"Command field invalid: \u0001\"\\/é","errorCode":"COMMAND_FIELD_INVALID"},{"message":"No command matched","errorCode":"NO_COMMAND_MATCHED"}]}"#,
+    r#"{"status":{"deletedCount":18446744073709551615},"errors":[{"message":"Command field invalid: \u0001\"\\/é","errorCode":"COMMAND_FIELD_INVALID"},{"message":"No command matched","errorCode":"NO_COMMAND_MATCHED"}]}"#,
     r#"{"status":{"deletedCount":7},"errors":[{"message":"No version numbers are left","errorCode":"VERSIONS_SPENT"}]}"#,
     r#"{"errors":[{"message":"Out of memory after 18446744073709551615 accepted writes","errorCode":"OUT_OF_MEMORY"}]}"#,
 ];
+
+const ESCAPED: &str = "\u{1}\"\\/é";
+
+const STATE: &str = "AQAAAAAAAAAoAW9yZGVyLTEwMDE=";
 
 // A page of so many documents, the second of which shows nothing.
 fn listed(alloc: Global, documents: usize, state: Option<&str>) -> Result<Reply, Fail> {
@@ -99,17 +115,71 @@ fn text_state(alloc: Global, state: Option<&str>) -> Result<Option<Text>, Fail> 
     }
 }
 
+fn upsert(alloc: Global, id: Option<&str>) -> Result<Option<DocId>, Fail> {
+    match id {
+        Some(id) => Ok(Some(text_id(alloc, id)?)),
+        None => Ok(None),
+    }
+}
+
+fn found(alloc: Global, is_found: bool) -> Result<Option<Value>, Fail> {
+    if is_found {
+        Ok(Some(document(alloc)?))
+    } else {
+        Ok(None)
+    }
+}
+
+fn found_and_changed(
+    alloc: Global,
+    is_found: bool,
+    matched: u64,
+    upserted: Option<&str>,
+) -> Result<Reply, Fail> {
+    Ok(Reply::FoundAndChanged {
+        view: found(alloc, is_found)?,
+        matched,
+        modified: 0,
+        upserted: upsert(alloc, upserted)?,
+    })
+}
+
+fn found_and_deleted(alloc: Global, is_found: bool, deleted: u64) -> Result<Reply, Fail> {
+    Ok(Reply::FoundAndDeleted {
+        view: found(alloc, is_found)?,
+        deleted,
+    })
+}
+
+fn updated(alloc: Global, matched: u64, upserted: Option<&str>) -> Result<Reply, Fail> {
+    Ok(Reply::Updated {
+        matched,
+        modified: 0,
+        upserted: upsert(alloc, upserted)?,
+    })
+}
+
 fn updated_page(
     alloc: Global,
     matched: u64,
     modified: u64,
+    upserted: Option<&str>,
     state: Option<&str>,
 ) -> Result<Reply, Fail> {
     Ok(Reply::UpdatedMany {
         matched,
         modified,
+        upserted: upsert(alloc, upserted)?,
         state: text_state(alloc, state)?,
     })
+}
+
+fn collections(alloc: Global, names: &[&str]) -> Result<Reply, Fail> {
+    let mut texts = Vec::new(alloc);
+    for name in names {
+        texts.push(Text::of_str(alloc, name)?)?;
+    }
+    Ok(Reply::Names { names: texts })
 }
 
 // A refusal behind seven deletions.
@@ -118,56 +188,88 @@ fn refused_after(alloc: Global) -> Result<Reply, Fail> {
     Ok(refusal_after(alloc, Some(done), versions_spent(alloc)?)?)
 }
 
-// The replies of these texts.
-fn reply_at(alloc: Global, place: usize) -> Result<Reply, Fail> {
+// The replies that show documents.
+fn showing_at(alloc: Global, place: usize) -> Result<Reply, Fail> {
+    match place {
+        0 => Ok(Reply::Found {
+            view: found(alloc, true)?,
+        }),
+        1 => Ok(Reply::Found { view: None }),
+        2 => listed(alloc, 0, None),
+        3 => listed(alloc, 0, Some(STATE)),
+        4 => listed(alloc, 1, None),
+        5 => listed(alloc, 1, Some(ESCAPED)),
+        6 => listed(alloc, 3, None),
+        7 => listed(alloc, 3, Some("")),
+        8 => found_and_changed(alloc, true, 1, None),
+        9 => found_and_changed(alloc, true, 0, Some("a")),
+        10 => found_and_changed(alloc, false, 0, Some(ESCAPED)),
+        11 => found_and_deleted(alloc, true, 1),
+        _ => found_and_deleted(alloc, false, 0),
+    }
+}
+
+// The replies that tell counts, ids and names.
+fn telling_at(alloc: Global, place: usize) -> Result<Reply, Fail> {
     match place {
         0 => Ok(Reply::Inserted { ids: ids(alloc)? }),
-        1 => Ok(Reply::Found {
-            view: Some(document(alloc)?),
-        }),
-        2 => Ok(Reply::Found { view: None }),
-        3 => Ok(Reply::Counted {
+        1 => Ok(Reply::Counted {
             count: 0,
             more: false,
         }),
-        4 => Ok(Reply::Counted {
+        2 => Ok(Reply::Counted {
             count: 1000,
             more: true,
         }),
-        5 => Ok(refusal(alloc, no_command(alloc)?)?),
-        6 => refused(alloc, Some(SoFar::Inserted(ids(alloc)?))),
-        7 => refused(
+        3 => updated(alloc, 1, None),
+        4 => updated(alloc, 0, Some("a")),
+        5 => updated_page(alloc, u64::MAX, 0, None, None),
+        6 => updated_page(alloc, 20, 19, None, Some(STATE)),
+        7 => updated_page(alloc, 20, 0, None, Some(ESCAPED)),
+        8 => updated_page(alloc, 0, 0, Some("a"), None),
+        9 => updated_page(alloc, 0, 0, Some("a"), Some("")),
+        10 => Ok(Reply::Deleted { deleted: 1 }),
+        11 => Ok(Reply::DeletedMany {
+            deleted: 0,
+            more: false,
+        }),
+        12 => Ok(Reply::DeletedMany {
+            deleted: 20,
+            more: true,
+        }),
+        13 => Ok(Reply::Done),
+        14 => collections(alloc, &[]),
+        15 => collections(alloc, &["order"]),
+        _ => collections(alloc, &["order", ESCAPED]),
+    }
+}
+
+// The replies that refuse.
+fn refusing_at(alloc: Global, place: usize) -> Result<Reply, Fail> {
+    match place {
+        0 => Ok(refusal(alloc, no_command(alloc)?)?),
+        1 => refused(alloc, Some(SoFar::Inserted(ids(alloc)?))),
+        2 => refused(
             alloc,
             Some(SoFar::Updated {
                 matched: 3,
                 modified: 2,
             }),
         ),
-        8 => refused(alloc, Some(SoFar::Deleted { deleted: u64::MAX })),
-        9 => Ok(Reply::Updated {
-            matched: 1,
-            modified: 0,
-        }),
-        10 => listed(alloc, 0, None),
-        11 => listed(alloc, 0, Some("AQAAAAAAAAAoAW9yZGVyLTEwMDE=")),
-        12 => listed(alloc, 1, None),
-        13 => listed(alloc, 1, Some("\u{1}\"\\/é")),
-        14 => listed(alloc, 3, None),
-        15 => listed(alloc, 3, Some("")),
-        16 => updated_page(alloc, u64::MAX, 0, None),
-        17 => updated_page(alloc, 20, 19, Some("AQAAAAAAAAAoAW9yZGVyLTEwMDE=")),
-        18 => updated_page(alloc, 20, 0, Some("\u{1}\"\\/é")),
-        19 => Ok(Reply::Deleted { deleted: 1 }),
-        20 => Ok(Reply::DeletedMany {
-            deleted: 0,
-            more: false,
-        }),
-        21 => Ok(Reply::DeletedMany {
-            deleted: 20,
-            more: true,
-        }),
-        22 => refused_after(alloc),
+        3 => refused(alloc, Some(SoFar::Deleted { deleted: u64::MAX })),
+        4 => refused_after(alloc),
         _ => Ok(Reply::NoMemory { accepted: u64::MAX }),
+    }
+}
+
+// The replies of these texts.
+fn reply_at(alloc: Global, place: usize) -> Result<Reply, Fail> {
+    if place < 13 {
+        showing_at(alloc, place)
+    } else if place < 30 {
+        telling_at(alloc, place - 13)
+    } else {
+        refusing_at(alloc, place - 30)
     }
 }
 
@@ -187,7 +289,7 @@ fn replies_have_their_texts(rt: HostRuntime) -> Result<(), Fail> {
     Ok(())
 }
 
-const MESSAGES: [(Code, &str); 33] = [
+const MESSAGES: [(Code, &str); 34] = [
     (Code::InvalidJson, "Body is not JSON at byte 13"),
     (Code::InvalidJson, "Body is not UTF-8 at byte 0"),
     (Code::InvalidJson, "Body is nested too deep at byte 32"),
@@ -265,6 +367,7 @@ const MESSAGES: [(Code, &str); 33] = [
         "Command limit options.limit is 100, found 18446744073709551615",
     ),
     (Code::DatasetTooBig, "More than 10000 documents to sort"),
+    (Code::TooManyCollections, "At most 100 collections"),
     (Code::StoreFault, "Store fault: 0 then 1"),
 ];
 
@@ -321,6 +424,7 @@ fn error_at(alloc: Global, place: usize) -> Result<ErrorItem, Fail> {
         29 => bad_page_state(alloc),
         30 => command_limit(alloc, "options.limit", 100, u64::MAX),
         31 => too_many_to_sort(alloc),
+        32 => too_many_collections(alloc),
         _ => store_fault(alloc, 0, 1),
     };
     Ok(made?)

@@ -38,7 +38,7 @@ pub(super) const MANY: &str = r#"run --collection=c
 /v1/ks/c {"updateMany":{"update":{"$inc":{"n":1}}}}
 /v1/ks/c {"updateMany":{"filter":{"_id":"d19"},"update":{"$inc":{"n":1}}}}
 /v1/ks/c {"updateMany":{"update":{"$inc":{"n":1}},"options":{"pageState":"AA=="}}}
-/v1/ks/c {"updateMany":{"update":{"$inc":{"n":1}},"options":{"upsert":true}}}
+/v1/ks/c {"updateMany":{"update":{"$inc":{"n":1}},"options":{"upsert":"x"}}}
 /v1/ks/c {"updateMany":{"filter":{}}}
 /v1/ks/c {"updateMany":{"update":{},"sort":{}}}
 /v1/ks/c {"deleteMany":{"sort":{}}}

@@ -15,7 +15,7 @@ pub(super) const REQUESTS: &str = r#"run --collection=c
 /v1/ks/c {"insertOne":{"document":{"_id":{"$date":0}}}}
 /v1/ks/c {"insertOne":{"document":{"_id":[1]}}}
 /v1/ks/c {"insertOne":{"document":{"_id":""}}}
-/v1/ks/c {"insertOne":{"document":{"n":1}}}
+/v1/ks/c {"insertOne":{"document":{"n":1,"_id":{}}}}
 /v1/ks/c {"insertOne":{"document":{"_id":"d","a b":1}}}
 /v1/ks/c {"insertOne":{"document":{"_id":"d","":1}}}
 /v1/ks/c {"insertOne":{"document":{"_id":"d","nnnnnnnnnnnnnnnnnnnnnnnnnnnnnnnnnnnnnnnnnnnnnnnnnnnnnnnnnnnnnnnnnnnnnnnnnnnnnnnnnnnnnnnnnnnnnnnnnnnnn":1}}}
@@ -160,7 +160,7 @@ line 1 is not a request
 // Updates: what they make, what they are refused for, and what a failed call of the keeper leaves.
 pub(super) const UPDATES: &str = r#"run --collection=c
 /v1/ks/c {"updateOne":{"update":{"$set":{"a.b":1,"a":2}}}}
-/v1/ks/c {"updateOne":{"update":{"$set":{"a":2}},"options":{"upsert":true}}}
+/v1/ks/c {"updateOne":{"update":{"$set":{"a":2}},"options":{"upsert":1}}}
 /v1/ks/c {"updateOne":{"update":{"$set":{"a":2}},"options":{}}}
 /v1/ks/c {"insertOne":{"document":{"_id":"a","s":"x"}}}
 /v1/ks/c {"updateOne":{"update":{"$inc":{"s":1}}}}

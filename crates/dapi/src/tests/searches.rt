@@ -671,6 +671,7 @@ pub(super) const SORTABLE: &str =
 /v1/ks/c {"findOne":{"sort":{"k":-1},"projection":{"k":1,"_id":0}}}
 /v1/ks/c {"updateOne":{"sort":{"k":-1},"update":{"$set":{"k":-1}}}}
 /v1/ks/c {"findOne":{"filter":{"k":-1}}}
+/v1/ks/c {"findOneAndUpdate":{"sort":{"k":-1},"update":{"$inc":{"k":0}},"projection":{"k":1}}}
 "#;
 
 pub(super) const SORTED: &str =
@@ -679,11 +680,16 @@ pub(super) const SORTED: &str =
 {"data":{"document":{"k":9999}}}
 {"status":{"matchedCount":1,"modifiedCount":1}}
 {"data":{"document":{"_id":9999,"k":-1}}}
+{"data":{"document":{"_id":9998,"k":9998}},"status":{"matchedCount":1,"modifiedCount":0}}
 "#;
 
 pub(super) const UNSORTABLE: &str = r#"/v1/ks/c {"find":{"sort":{"k":-1}}}
 /v1/ks/c {"findOne":{"sort":{"k":-1}}}
 /v1/ks/c {"updateOne":{"sort":{"k":-1},"update":{"$set":{"k":-1}}}}
+/v1/ks/c {"deleteOne":{"sort":{"k":-1}}}
+/v1/ks/c {"findOneAndUpdate":{"sort":{"k":-1},"update":{"$set":{"k":-1}},"options":{"upsert":true}}}
+/v1/ks/c {"findOneAndReplace":{"sort":{"k":-1},"replacement":{"_id":-1}}}
+/v1/ks/c {"findOneAndDelete":{"sort":{"k":-1}}}
 /v1/ks/c {"find":{"filter":{"k":{"$gte":0}},"sort":{"k":-1},"options":{"limit":2}}}
 /v1/ks/c {"find":{"options":{"limit":1}}}
 /v1/ks/c {"findOne":{}}
@@ -691,6 +697,10 @@ pub(super) const UNSORTABLE: &str = r#"/v1/ks/c {"find":{"sort":{"k":-1}}}
 
 pub(super) const REFUSED: &str =
     r#"{"errors":[{"message":"More than 10000 documents to sort","errorCode":"DATASET_TOO_BIG"}]}
+{"errors":[{"message":"More than 10000 documents to sort","errorCode":"DATASET_TOO_BIG"}]}
+{"errors":[{"message":"More than 10000 documents to sort","errorCode":"DATASET_TOO_BIG"}]}
+{"errors":[{"message":"More than 10000 documents to sort","errorCode":"DATASET_TOO_BIG"}]}
+{"errors":[{"message":"More than 10000 documents to sort","errorCode":"DATASET_TOO_BIG"}]}
 {"errors":[{"message":"More than 10000 documents to sort","errorCode":"DATASET_TOO_BIG"}]}
 {"errors":[{"message":"More than 10000 documents to sort","errorCode":"DATASET_TOO_BIG"}]}
 {"data":{"documents":[{"_id":10000,"k":10000},{"_id":9998,"k":9998}],"nextPageState":null}}

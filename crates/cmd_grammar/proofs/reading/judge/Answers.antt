@@ -11,7 +11,7 @@ returns-in-None-clause-answers c =
 pub returns-in-Ok-clause-answers : goal.returns-in-Ok-clause-answers
 returns-in-Ok-clause-answers c = (
   sym (is_named c.args.keyspace.now c.args.place.now (tree c.args.value.now) (c.in-Some.name, tree c.in-Some.command.now) c.in-Some.ensures) ∙ c.in-Ok.ensures.answers.0,
-  record { inner = tree c.in-Some.command.now; is_at = sym c.in-Some.ensures; are_parts = c.in-Ok.ensures.answers.1.0; sound = c.in-Ok.ensures.answers.1.1 },
+  record { inner = tree c.in-Some.command.now; is_at = sym c.in-Some.ensures; are_parts = c.in-Ok.ensures.answers.1 },
 )
 
 pub returns-in-Err-clause-answers : goal.returns-in-Err-clause-answers

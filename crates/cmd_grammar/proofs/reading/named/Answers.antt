@@ -9,12 +9,12 @@ returns-then-len-ne1 c = several c.args.place.now.collection (tree c.args.value.
 pub returns-in-None : goal.returns-in-None
 returns-in-None c = absurd (none_at c.in-Object.members (sym c.len.ensures.value ∙ c.if-len-ne1.false) c.in-None.ensures)
 
-pub returns-in-Some-command_named : goal.returns-in-Some-command_named
-returns-in-Some-command_named c =
-    one_named c.args.place.now.collection c.in-Some.field-0 c.in-Some-pair.name.now (tree c.in-Some-pair.inner.now) (tree c.args.value.now) c.in-Object.members (Some c.in-Some-command_named.name)
-    c.in-Some.is (ap tree c.in-Object.is) (sym c.len.ensures.value ∙ c.if-len-ne1.false) c.in-Some-pair.ensures (rw c.as_str.ensures at c.in-Some-command_named.ensures)
+pub returns-in-Some-named_at : goal.returns-in-Some-named_at
+returns-in-Some-named_at c =
+    one_named c.args.place.now.collection c.in-Some.name.now (tree c.in-Some.inner.now) (tree c.args.value.now) c.in-Object.members (Some c.in-Some-named_at.name)
+    (ap tree c.in-Object.is) (sym c.len.ensures.value ∙ c.if-len-ne1.false) c.in-Some.ensures (rw c.as_str.ensures at c.in-Some-named_at.ensures)
 
-pub returns-in-None-command_named : goal.returns-in-None-command_named
-returns-in-None-command_named c =
-    one_named c.args.place.now.collection c.in-Some.field-0 c.in-Some-pair.name.now (tree c.in-Some-pair.inner.now) (tree c.args.value.now) c.in-Object.members None
-    c.in-Some.is (ap tree c.in-Object.is) (sym c.len.ensures.value ∙ c.if-len-ne1.false) c.in-Some-pair.ensures (rw c.as_str.ensures at c.in-None-command_named.ensures)
+pub returns-in-None-named_at : goal.returns-in-None-named_at
+returns-in-None-named_at c =
+    one_named c.args.place.now.collection c.in-Some.name.now (tree c.in-Some.inner.now) (tree c.args.value.now) c.in-Object.members None
+    (ap tree c.in-Object.is) (sym c.len.ensures.value ∙ c.if-len-ne1.false) c.in-Some.ensures (rw c.as_str.ensures at c.in-None-named_at.ensures)

@@ -2,7 +2,7 @@ use Rattle.std.proofs.Common.{ℕ, List, subst}
 use Rattle.json_tree.specs.View.{tree}
 use Rattle.json_text.specs.Grammar.{Reads}
 use Rattle.json_text.specs.Fault.{IsFault}
-use Rattle.cmd_grammar.proofs.Insertions.{read_as, unread_as}
+use Rattle.cmd_grammar.proofs.Bodies.{read_as, unread_as}
 use Rattle.cmd_grammar.proofs.reading.read_request.Goals as goal
 
 pub returns-in-Ok-clause-answers : goal.returns-in-Ok-clause-answers

@@ -18,11 +18,11 @@ returns-in-Shown-clause-steps g c =
     page_steps c.args.by _ _ _ _ c.args.many c.args.stand c.listed.result c.in-Shown.item c.in-Shown.rows.items c.in-Shown.last c.go_on.result c.requires.ready.2 made.0 made.1 c.in-Shown.ensures.few c.listed.ensures c.go_on.ensures.ready
 
 pub returns-in-Shown-clause-leads : goal.returns-in-Shown-clause-leads
-returns-in-Shown-clause-leads g c = λ base told_base moment trace placed way.
-    page_leads base c.args.coll.now c.args.by moment c.args.many c.args.stand c.requires.ready.0.may c.requires.ready.2 c.glance.new.store.journal (sights c.args.store.now.journal trace) way
+returns-in-Shown-clause-leads g c = λ base told_base trace placed way.
+    page_leads base c.args.coll.now c.args.by c.args.many c.args.stand c.requires.ready.2 c.glance.new.store.journal (sights c.args.store.now.journal trace) way
     c.in-Shown.item c.in-Shown.rows c.in-Shown.last (c.in-Shown.ensures.told base told_base) c.listed.result c.go_on.result c.listed.ensures c.go_on.ensures.told
 
 pub returns-in-Ended-clause-leads : goal.returns-in-Ended-clause-leads
-returns-in-Ended-clause-leads g c = λ base told_base moment trace placed way.
-    page_stopped base c.args.coll.now c.args.by moment c.args.many c.args.stand c.requires.ready.0.may c.requires.ready.2 c.glance.new.store.journal (sights c.args.store.now.journal trace) way
+returns-in-Ended-clause-leads g c = λ base told_base trace placed way.
+    page_stopped base c.args.coll.now c.args.by c.args.many c.args.stand c.requires.ready.2 c.glance.new.store.journal (sights c.args.store.now.journal trace) way
     c.in-Ended.item c.in-Ended.reply c.told_after.result (c.in-Ended.ensures.told base told_base) (λ error refuses st m n. c.told_after.ensures.refuses st error m n refuses)

@@ -10,12 +10,12 @@ returns-in-Shown-clause-steps g c = subst (Steps c.args.by _ _ (Counting c.args.
     (count_steps c.args.by _ _ _ _ c.args.wanted c.args.last c.args.so_far _ c.in-Shown.item c.in-Shown.rows c.in-Shown.last c.requires.wanted c.in-Shown.ensures.made)
 
 pub returns-in-Shown-clause-leads : goal.returns-in-Shown-clause-leads
-returns-in-Shown-clause-leads g c = λ base told_base moment trace placed way.
+returns-in-Shown-clause-leads g c = λ base told_base trace placed way.
     let earlier = sights c.args.store.now.journal trace in
-    subst (Leads base c.args.coll.now c.args.by moment c.glance.new.store.journal (Counting c.args.wanted c.args.last c.args.so_far) earlier) (sym c.counted_to.ensures)
-    (count_leads base c.args.coll.now c.args.by moment c.args.wanted c.args.last c.args.so_far _ c.glance.new.store.journal earlier c.in-Shown.item c.in-Shown.rows c.in-Shown.last (search rules) way (c.in-Shown.ensures.told base told_base))
+    subst (Leads base c.args.coll.now c.args.by c.glance.new.store.journal (Counting c.args.wanted c.args.last c.args.so_far) earlier) (sym c.counted_to.ensures)
+    (count_leads base c.args.coll.now c.args.by c.args.wanted c.args.last c.args.so_far _ c.glance.new.store.journal earlier c.in-Shown.item c.in-Shown.rows c.in-Shown.last (search rules) way (c.in-Shown.ensures.told base told_base))
 
 pub returns-in-Ended-clause-leads : goal.returns-in-Ended-clause-leads
-returns-in-Ended-clause-leads g c = λ base told_base moment trace placed way.
+returns-in-Ended-clause-leads g c = λ base told_base trace placed way.
     let earlier = sights c.args.store.now.journal trace in
-    count_ended base c.args.coll.now c.args.by moment c.args.wanted c.args.last c.args.so_far c.glance.new.store.journal earlier c.in-Ended.item c.in-Ended.reply way (c.in-Ended.ensures.told base told_base)
+    count_ended base c.args.coll.now c.args.by c.args.wanted c.args.last c.args.so_far c.glance.new.store.journal earlier c.in-Ended.item c.in-Ended.reply way (c.in-Ended.ensures.told base told_base)

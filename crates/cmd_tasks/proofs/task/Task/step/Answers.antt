@@ -1,9 +1,11 @@
-use Rattle.std.proofs.Common.{rules, refl, sym, subst, ◌≡◌, ◌+◌, ◌<◌, ◌≤◌, ℕ, true, Result, Ok, Err, arith}
-use Rattle.std.specs.Prelude.{OnOk, is_ok}
+use Rattle.std.proofs.Common.{rules, refl, sym, ap, ◌∙◌, subst, ◌≡◌, ◌+◌, ◌<◌, ◌≤◌, ℕ, true, Option, Result, Ok, Err, arith}
+use Rattle.std.specs.Prelude.{OnOk, IfSome, is_ok}
 use Rattle.reply_env.specs.declared.reply.Reply.TheVariants.{NoMemory}
-use Rattle.cmd_tasks.specs.Moves.{IsUnderWay}
+use Rattle.cmd_tasks.specs.Jobs.{Job}
+use Rattle.cmd_tasks.specs.Moves.{asked, IsUnderWay}
+use Rattle.cmd_tasks.specs.Session.{name_of}
 use Rattle.cmd_tasks.specs.Served.{sights}
-use Rattle.cmd_tasks.specs.Stands.{StandsOn}
+use Rattle.cmd_tasks.specs.Stands.{HasCollection, StandsOn}
 use Rattle.cmd_tasks.specs.declared.work.State.{State}
 use Rattle.cmd_tasks.proofs.Standing.{stands_on, served_so, cut_so, done_so}
 use Rattle.cmd_tasks.proofs.Tries.{fits_so}
@@ -37,9 +39,14 @@ pub returns-in-NoMemory-clause-done : goal.returns-in-NoMemory-clause-done
 returns-in-NoMemory-clause-done g c = λ d. done_so c.replace-state.new.dest _ (NoMemory c.accepted_by.result) c.replace-state.ensures.after
     (cut_so _ _ _ c.args.self.now c.reserve.new.self.items c.accepted_by.result c.requires.stands c.in-NoMemory.ensures.steps c.reserve.ensures.items c.accepted_by.ensures)
 
+pub advance-requires-clause-collection : goal.advance-requires-clause-collection
+advance-requires-clause-collection g c =
+    let task = c.args.self.now in
+    subst (λ (o : Option Job). IfSome o (HasCollection task.coll)) (sym (ap asked (search rules) ∙ c.requires.stands.asks)) c.requires.stands.has_collection
+
 pub advance-requires-clause-fits : goal.advance-requires-clause-fits
 advance-requires-clause-fits g c = λ base told.
     let lawful = c.journal_len.ensures.lawful base told in
     let task = c.args.self.now in
-    fits_so c.numbers_are_given_once.ensures base task.coll task.session task.trace.moment c.replace-state.result c.args.store.now.journal task.trace.items.items c.requires.stands.placed lawful.0 (c.journal_len.ensures.apart base told) lawful.1
-    (subst (λ (w : State). IsUnderWay base task.coll task.session task.trace.moment w (sights c.args.store.now.journal task.trace.items.items)) (search rules) (c.requires.stands.under_way base told))
+    fits_so c.numbers_are_given_once.ensures base (name_of task.coll) task.session c.replace-state.result c.args.store.now.journal task.trace.items.items c.requires.stands.placed lawful.0 (c.journal_len.ensures.apart base told) lawful.1
+    (subst (λ (w : State). IsUnderWay base (name_of task.coll) task.session w (sights c.args.store.now.journal task.trace.items.items)) (search rules) (c.requires.stands.under_way base told))

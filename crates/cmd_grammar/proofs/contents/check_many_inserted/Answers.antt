@@ -1,0 +1,12 @@
+use Rattle.std.proofs.Common.{ap, sym, ◌∙◌}
+use Rattle.std.specs.Option.{option_map}
+use Rattle.json_tree.specs.View.{tree}
+use Rattle.cmd_grammar.proofs.Inside.{documents_are}
+use Rattle.cmd_grammar.proofs.Tested.{documents_tested}
+use Rattle.cmd_grammar.proofs.contents.check_many_inserted.Goals as goal
+
+pub returns-in-Some-List : goal.returns-in-Some-List
+returns-in-Some-List c =
+    documents_tested (tree c.args.command.now) c.in-Some-List.documents c.check_each_document.result
+    (documents_are (tree c.args.command.now) (tree c.in-Some-List.field-0.now) c.in-Some-List.documents (ap (option_map (λ v. tree v.now)) (sym c.in-Some-List.is) ∙ c.member.ensures) (ap tree c.in-Some-List.field-0-is))
+    c.check_each_document.ensures

@@ -1,7 +1,0 @@
-use Rattle.std.proofs.Common.{rules, ◌<◌, length, refl}
-use Rattle.cmd_tasks.proofs.deletes.deletion_lost.Goals as goal
-
-pub returns : goal.returns
-returns c =
-    let few : length c.in-Some.lost.items < 4 = search rules in
-    (c.in-Some.lost, c.in-Some.ensures, few, refl, (c.begin-progress.result, c.begin-progress.ensures, refl))

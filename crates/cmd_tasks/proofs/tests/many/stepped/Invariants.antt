@@ -1,5 +1,0 @@
-use Rattle.cmd_tasks.proofs.Contests.{Contends}
-use Rattle.cmd_tasks.proofs.tests.many.stepped.Given as goal
-
-abbrev pub invariant-steps : goal.invariant-steps
-invariant-steps l = Contends l.fn.task.session l.other l.store.start l.store.journal l.task

@@ -1,9 +1,0 @@
-use Rattle.std.proofs.Common.{ℕ, ◌<◌, sym, subst}
-use Rattle.store_core.specs.Counts.{opened_in}
-use Rattle.cmd_tasks.proofs.tests.served.Goals as goal
-
-pub serve-requires-clause-known : goal.serve-requires-clause-known
-serve-requires-clause-known c = subst (λ (k : ℕ). k < opened_in c.args.store.now.journal) (sym c.new.ensures.asked.0) c.requires.known
-
-pub serve-requires-clause-begun : goal.serve-requires-clause-begun
-serve-requires-clause-begun c = (c.new.ensures.empty, c.new.ensures.stands c.args.store.now.start c.args.store.now.journal)

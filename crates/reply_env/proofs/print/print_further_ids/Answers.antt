@@ -1,9 +1,0 @@
-use Rattle.std.proofs.Common.{rules}
-use Rattle.json_text.specs.Print.{Extends}
-use Rattle.reply_env.proofs.Kept.{kept-past}
-use Rattle.reply_env.proofs.print.print_further_ids.Goals as goal
-
-pub returns-in_err-print_id-clause-kept : goal.returns-in_err-print_id-clause-kept
-returns-in_err-print_id-clause-kept c =
-    let kept : Extends c.args.out.now.items c.print_id.new.out.items = kept-past _ _ _ _ c.loop-id.invariant (kept-past _ _ _ _ c.in_ok-push.ensures.items c.in_err-print_id.ensures.kept) in
-    search (rules, kept)

@@ -1,0 +1,11 @@
+use Rattle.std.proofs.Common.{codes}
+use Rattle.json_text.specs.Print.{text_of}
+use Rattle.reply_env.specs.Reply.{with_commas}
+use Rattle.reply_env.proofs.Pieces.{three_pieces}
+use Rattle.reply_env.proofs.print_parts.print_inserted.Goals as goal
+
+pub returns-clause-ok : goal.returns-clause-ok
+returns-clause-ok c =
+    three_pieces c.args.out.now.items c.extend_from_slice.new.self.items c.print_ids.new.out.items c.extend_from_slice-2.new.self.items
+    (codes "{\"insertedIds\":[") (with_commas text_of c.args.ids.now) (codes "]}")
+    c.in_ok-extend_from_slice.ensures.items c.in_ok-print_ids.ensures.ok c.in_ok-extend_from_slice-2.ensures.items
