@@ -26,10 +26,10 @@ class Told:
         return None
 
     def settle(self, drawn, reply, place):
-        """The id of the document that the reply shows at this place; one that is none of the program's where it can't be."""
+        """The id of the document that the reply shows at this place; where it shows none, a text of the length of one."""
         shown = dict(enumerate(shown_ids(reply))).get(place)
         if not isinstance(shown, str) or not re.fullmatch(FORM, shown) or shown in self.seen:
-            shown = f"(generated id {len(self.seen)})"
+            shown = f"(generated id {len(self.seen)})".ljust(36)
         self.seen.add(shown)
         return shown
 
