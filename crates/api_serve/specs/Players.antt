@@ -1,77 +1,131 @@
 -- The sessions of a play, as the code holds them. Only the crate's private clauses cite it.
-use Rattle.std.specs.Prelude.{◌≡◌, ◌≢◌, ◌⊎◌, ℕ, ℤ, ◌+◌, ◌<◌, ◌≤◌, ⊤, List, [], ◌∷◌, ◌++◌, length, map, Option, None, Some, vec_capacity}
+use Rattle.std.specs.Prelude.{◌≡◌, ◌≢◌, ◌⊎◌, ℕ, zero, suc, ℤ, ◌+◌, ◌<◌, ◌≤◌, ⊤, List, [], ◌∷◌, ◌++◌, length, map, Option, None, Some, option_map, IfSome, vec_capacity}
 use Rattle.std.specs.Option.{ForSome}
 use Rattle.std.specs.List.{AllByRecursion as Each}
 use Rattle.rand_core.specs.Stream.{Stream}
+use Rattle.reply_env.specs.declared.request.Request.{Request}
 use Rattle.reply_env.specs.declared.reply.Reply.{Reply}
 use Rattle.reply_env.specs.declared.reply.Reply.TheVariants.{NoMemory}
 use Rattle.store_core.specs.State.{State}
-use Rattle.store_core.specs.Store.{Stored}
+use Rattle.store_core.specs.Counts.{opened_in}
 use Rattle.store_core.specs.declared.entry.Entry.{Entry}
 use Rattle.cmd_tasks.specs.Ids.{begins, stream_of_ids}
 use Rattle.cmd_tasks.specs.Moves.{accepted_by}
 use Rattle.cmd_tasks.specs.Session.{Exchange, IsSession, AreSessions, IsAnswered}
-use Rattle.cmd_tasks.specs.Stands.{StandsOn, IsSame, Adds, exchange}
+use Rattle.cmd_tasks.specs.Stands.{StandsOn, IsSame, Adds, AddsItem, exchange}
 use Rattle.cmd_tasks.specs.declared.task.Task.{Task}
-use Rattle.api_serve.specs.Session.{AreTraces, AreDrawn, stream_behind}
-use Rattle.api_serve.specs.Play.{Player, Standing, begun_by, IsDone, GetsStep, GetSteps, Works}
+use Rattle.api_serve.specs.Session.{AreAsked, AreTraces, AreDrawn, stream_behind}
+use Rattle.api_serve.specs.Play.{Player, Scene, Standing, begun_by, IsDone, IsCut, GetSteps, Works, one_by_one}
 use Rattle.api_serve.specs.declared.player.Player.{Player as Held}
 
 -- a task under way, answered as it is where memory runs out now
 abbrev pub cut_off : Task → Exchange
 cut_off task = exchange task (NoMemory (accepted_by task.state))
 
--- the task under way is this request, and stands on the history
-abbrev pub IsPresent : Option State → List Entry → ℕ → Option Task → Option Exchange → Type 0
-IsPresent start H k None present = present ≡ None
-IsPresent start H k (Some task) present = (present ≡ Some (cut_off task)) × (task.session ≡ k) × StandsOn start H task
+abbrev pub scene_of : List Entry → ℕ → Option (List ℤ) → Scene
+scene_of journal failed times = record { journal = journal; failed = failed; times = times }
 
 -- how many requests are under way: one or none
-abbrev pub under_way : Option Exchange → ℕ
+abbrev pub under_way : Option Task → ℕ
 under_way None = 0
-under_way (Some x) = 1
+under_way (Some task) = 1
 
--- what the code holds of a session, the k-th of the store, whose ids come from this stream
-pub record IsHeld (start : Option State) (H : List Entry) (k : ℕ) (stream : Stream) (held : Held) (p : Player) : Type 0 where
-  pub session : held.session ≡ k
+-- how many requests aren't served yet
+abbrev pub unserved_by : Held → ℕ
+unserved_by held = under_way held.task + length held.left.items
+
+-- nothing is left to do
+abbrev pub IsIdle : Held → Type 0
+IsIdle held = (held.left.items ≡ []) × (held.task ≡ None)
+
+-- the session can go on: its task stands on the history, and there is room for what all requests will be answered
+pub record CanGoOn (start : Option State) (H : List Entry) (held : Held) : Type 0 where
+  pub stands : IfSome held.task (λ task. (task.session ≡ held.session) × StandsOn start H task)
+  pub room : length held.replies.items + unserved_by held ≤ vec_capacity held.replies
+  pub room_for_traces : length held.traces.items + unserved_by held ≤ vec_capacity held.traces
+
+-- what the code holds of a session that asks these requests, and whose ids come from this stream
+pub record IsHeld (keyspace : List ℕ) (requests : List Request) (stream : Stream) (held : Held) (p : Player) : Type 0 where
   pub left : held.left.items ≡ p.left
   pub replies : held.replies.items ≡ map (λ x. x.reply) p.served
   pub traces : AreTraces held.traces.items p.served
-  pub present : IsPresent start H k held.task p.present
+  pub present : p.present ≡ option_map cut_off held.task
+  pub begun : List Request
+  pub asked : AreAsked keyspace begun (begun_by p)
+  pub all : requests ≡ begun ++ p.left
   pub drawn : AreDrawn stream (begun_by p)
   pub ids : stream_of_ids held.ids ≡ stream_behind (begun_by p) stream
-  pub room : length p.served + under_way p.present + length p.left ≤ vec_capacity held.replies
-  pub room_for_traces : length p.served + under_way p.present + length p.left ≤ vec_capacity held.traces
-
--- the same of all sessions, from the k-th on
-abbrev pub AreHeld : Option State → List Entry → List ℕ → ℕ → ℕ → List Held → List Player → Type 0
-AreHeld start H seed base k [] [] = ⊤
-AreHeld start H seed base k [] (p ∷ players) = ⊥
-AreHeld start H seed base k (held ∷ others) [] = ⊥
-AreHeld start H seed base k (held ∷ others) (p ∷ players) = IsHeld start H k (begins seed base k) held p × AreHeld start H seed base (k + 1) others players
 
 -- A step of a task: it goes on and stands on the longer history, or is served; what else is held stays
 pub record StepsTask (start : Option State) (H H' : List Entry) (low high : ℕ) (held held' : Held) (task : Task) : Type 0 where
   pub later : Task
   pub same : IsSame task later
   pub adds : Adds task.session low high H H' task.trace.items.items later.trace.items.items
-  pub rest : (held'.session ≡ held.session) × (held'.ids ≡ held.ids) × (held'.left.items ≡ held.left.items)
-  pub then : ((held'.task ≡ Some later) × StandsOn start H' later × (held'.replies.items ≡ held.replies.items) × (held'.traces.items ≡ held.traces.items))
+  pub rest : (held'.session ≡ held.session) × (held'.ids ≡ held.ids) × (held'.left ≡ held.left)
+  pub then : ((held'.task ≡ Some later) × StandsOn start H' later × AddsItem task.trace.items.items later.trace.items.items
+      × (held'.replies ≡ held.replies) × (held'.traces ≡ held.traces))
       ⊎ ((reply : Reply) × (held'.task ≡ None) × ForSome start (λ base. IsAnswered base H' task.session (exchange later reply))
-      × (held'.replies.items ≡ held.replies.items ++ reply ∷ []) × (held'.traces.items ≡ held.traces.items ++ later.trace ∷ []))
-  pub room : vec_capacity held.replies ≤ vec_capacity held'.replies
-  pub room_for_traces : vec_capacity held.traces ≤ vec_capacity held'.traces
+      × (AddsItem task.trace.items.items later.trace.items.items ⊎ (reply ≡ NoMemory (accepted_by task.state)))
+      × (held'.replies.items ≡ held.replies.items ++ reply ∷ []) × (held'.traces.items ≡ held.traces.items ++ later.trace ∷ [])
+      × (vec_capacity held.replies ≤ vec_capacity held'.replies) × (vec_capacity held.traces ≤ vec_capacity held'.traces))
+
+-- so many steps of one session, the k-th of the store
+abbrev pub WorksOn : List ℕ → ℕ → ℕ → Player → Player → Scene → Scene → Type 0
+WorksOn keyspace k zero p p' s s' = (p' ≡ p) × (s' ≡ s)
+WorksOn keyspace k (suc count) p p' s s' = (q : Player) × (t : Scene) × Works keyspace k p q s t × WorksOn keyspace k count q p' t s'
+
+-- from there the session came so far, by so many steps
+pub record Reaches (start : Option State) (keyspace : List ℕ) (requests : List Request) (stream : Stream) (k count : ℕ) (p : Player) (held' : Held) (s s' : Scene) : Type 0 where
+  pub now : Player
+  pub works : WorksOn keyspace k count p now s s'
+  pub is_held : IsHeld keyspace requests stream held' now
+  pub session : ForSome start (λ base. IsSession base s.journal k (begun_by p) → IsSession base s'.journal k (begun_by now))
+
+-- so many steps of one session were made, wherever it stood
+abbrev pub StepsOn : Option State → List ℕ → ℕ → Held → Held → Scene → Scene → Type 0
+StepsOn start keyspace count held held' s s' = (requests : List Request) (stream : Stream) (p : Player) → IsHeld keyspace requests stream held p → Reaches start keyspace requests stream held.session count p held' s s'
+
+-- one step, where anything is left
+abbrev pub StepsOnce : Option State → List ℕ → Held → Held → Scene → Scene → Type 0
+StepsOnce start keyspace held held' s s' = (IsIdle held × (held' ≡ held) × (s' ≡ s)) ⊎ StepsOn start keyspace 1 held held' s s'
+
+-- the numbers of the sessions are these, one after the other
+abbrev pub AreNumbered : ℕ → List Held → Type 0
+AreNumbered first [] = ⊤
+AreNumbered first (held ∷ others) = (held.session ≡ first) × AreNumbered (first + 1) others
+
+-- sessions that can be played
+pub record ArePlayable (start : Option State) (H : List Entry) (held : List Held) : Type 0 where
+  pub first : ℕ
+  pub numbered : AreNumbered first held
+  pub known : Each (λ (h : Held). h.session < opened_in H) held
+  pub each : Each (CanGoOn start H) held
+
+-- what the code holds of the sessions from the k-th on, and what they ask
+abbrev pub AreHeld : List ℕ → List ℕ → ℕ → ℕ → List (List Request) → List Held → List Player → Type 0
+AreHeld keyspace seed base k [] [] [] = ⊤
+AreHeld keyspace seed base k (requests ∷ all) (held ∷ others) (p ∷ players) = (held.session ≡ k) × IsHeld keyspace requests (begins seed base k) held p × AreHeld keyspace seed base (k + 1) all others players
+AreHeld keyspace seed base k all others players = ⊥
 
 -- the sessions stand as they are held, and have made the exchanges that they have begun
-pub record AreStanding (start : Option State) (seed : List ℕ) (base first : ℕ) (held : List Held) (s : Standing) : Type 0 where
-  pub are_held : AreHeld start s.journal seed base first held s.players
-  pub sessions : ForSome start (λ b. AreSessions b s.journal first (map begun_by s.players))
+pub record AreStanding (start : Option State) (keyspace seed : List ℕ) (base first : ℕ) (requests : List (List Request)) (held : List Held) (s : Standing) : Type 0 where
+  pub are_held : AreHeld keyspace seed base first requests held s.players
+  pub sessions : ForSome start (λ b. AreSessions b s.scene.journal first (map begun_by s.players))
 
--- what is seen of a store and a clock, with these sessions
-abbrev pub standing : List Entry → ℕ → Option (List ℤ) → List Player → Standing
-standing journal failed times players = record { journal = journal; failed = failed; times = times; players = players }
+-- from there the sessions of these turns got a step each
+pub record Gets (start : Option State) (keyspace seed : List ℕ) (base first : ℕ) (requests : List (List Request)) (turns : List ℕ) (players : List Player) (held' : List Held) (s s' : Scene) : Type 0 where
+  pub now : List Player
+  pub steps : GetSteps keyspace first turns (record { scene = s; players = players }) (record { scene = s'; players = now })
+  pub standing : AreStanding start keyspace seed base first requests held' (record { scene = s'; players = now })
 
--- wherever the sessions stand so, these steps were taken from there, and the sessions stand so then
-pub record TakesSteps (start : Option State) (keyspace seed : List ℕ) (base first : ℕ) (turns : List ℕ) (held held' : List Held) (H H' : List Entry) (failed failed' : ℕ) (times times' : Option (List ℤ)) : Type 0 where
-  pub steps : (players : List Player) → AreStanding start seed base first held (standing H failed times players)
-      → (players' : List Player) × GetSteps keyspace first turns (standing H failed times players) (standing H' failed' times' players') × AreStanding start seed base first held' (standing H' failed' times' players')
+-- the sessions of these turns got a step each, wherever they stood
+abbrev pub TakesTurns : Option State → List ℕ → List ℕ → List Held → List Held → Scene → Scene → Type 0
+TakesTurns start keyspace turns held held' s s' = (seed : List ℕ) (base first : ℕ) (requests : List (List Request)) (players : List Player)
+    → AreStanding start keyspace seed base first requests held (record { scene = s; players = players }) → Gets start keyspace seed base first requests turns players held' s s'
+
+-- the sessions took these turns, and then as many as each needs to its end
+pub record PlaysOut (start : Option State) (keyspace turns : List ℕ) (held held' : List Held) (s s' : Scene) : Type 0 where
+  pub counts : List ℕ
+  pub each : length counts ≡ length held
+  pub steps : TakesTurns start keyspace (turns ++ one_by_one 0 counts) held held' s s'
+  pub idle : Each IsIdle held'

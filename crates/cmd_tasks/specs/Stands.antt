@@ -69,6 +69,10 @@ pub record IsSame (old new : Task) : Type 0 where
 abbrev pub Adds : ℕ → ℕ → ℕ → List Entry → List Entry → List Item → List Item → Type 0
 Adds k low high H H' trace trace' = ((trace' ≡ trace) × (H' ≡ H)) ⊎ ((i : Item) × (more : List Entry) × (trace' ≡ trace ++ i ∷ []) × (H' ≡ H ++ more) × Records k (length H) i more × Risen i × AllBy k more × AreCounted low high more)
 
+-- a step adds one item
+abbrev pub AddsItem : List Item → List Item → Type 0
+AddsItem trace trace' = (i : Item) × (trace' ≡ trace ++ i ∷ [])
+
 -- the task is done, with a reply of which this holds
 abbrev pub IfDone : State → (Reply → Type 0) → Type 0
 IfDone (Done reply) P = P reply

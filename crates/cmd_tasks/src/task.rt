@@ -1,5 +1,5 @@
 // A task.
-ghost use Rattle.std.specs.Prelude.{◌≡◌, ⊤, ◌+◌, ◌<◌, ◌≤◌, List, Option, Some, None, IfSome, []};
+ghost use Rattle.std.specs.Prelude.{◌≡◌, ◌⊎◌, ⊤, ◌+◌, ◌<◌, ◌≤◌, List, Option, Some, None, IfSome, []};
 ghost use Rattle.std.specs.Option.{ForSome};
 ghost use Rattle.store_core.specs.Counts.{opened_in};
 ghost use Rattle.store_core.specs.State.{State as Base};
@@ -7,12 +7,13 @@ ghost use Rattle.store_core.specs.Store.{IsLawful, SameBase, AtState};
 ghost use Rattle.store_core.specs.Growth.{Grows};
 ghost use Rattle.store_core.specs.declared.entry.Entry.{Entry as Journaled};
 ghost use Rattle.cmd_grammar.specs.Commands.{command_tree, IsAskable};
+ghost use Rattle.reply_env.specs.declared.reply.Reply.TheVariants.{NoMemory};
 ghost use Rattle.cmd_tasks.specs.Served.{IsServed};
 ghost use Rattle.cmd_tasks.specs.Moves.{asked, Steps, Promises, IsReady, Begins, Fits, left, accepted_by};
 ghost use Rattle.cmd_tasks.specs.Jobs.{draws};
 ghost use Rattle.cmd_tasks.specs.Ids.{after_drawing, stream_of_ids};
 ghost use Rattle.cmd_tasks.specs.Session.{name_of};
-ghost use Rattle.cmd_tasks.specs.Stands.{StandsOn, HasCollection, IsChange, IsTargeted, ids_of, job, IsSame, Adds, IfDone};
+ghost use Rattle.cmd_tasks.specs.Stands.{StandsOn, HasCollection, IsChange, IsTargeted, ids_of, job, IsSame, Adds, AddsItem, IfDone};
 
 use crate::collections::{create, drop_collection, name_all};
 use crate::finds::{list, select};
@@ -242,6 +243,8 @@ impl Task {
         requires stands { StandsOn store.old.start store.old.journal self.old }
         ensures same { IsSame self.old self.new }
         ensures adds { Adds self.old.session (K.failed store.old.keeper) (K.failed store.new.keeper) store.old.journal store.new.journal self.old.trace.items.items self.new.trace.items.items }
+        // Each step adds an item, unless memory ran out.
+        ensures item { AddsItem self.old.trace.items.items self.new.trace.items.items ⊎ ((result ≡ Next.Done) × IfDone self.new.state (λ reply. reply ≡ NoMemory (accepted_by self.old.state))) }
         ensures more { result ≡ Next.More → StandsOn store.new.start store.new.journal self.new × (left self.new.state < left self.old.state) }
         ensures done { result ≡ Next.Done → IfDone self.new.state (λ reply. ForSome store.old.start (λ base.
             IsServed base store.new.journal (name_of self.new.coll) self.new.session self.new.trace.moment (ids_of self.new) (command_tree self.new.command.value) self.new.trace.items.items reply)) }
