@@ -9,3 +9,4 @@ pub mod Whole
 pub mod Opened
 pub mod Contests
 pub mod Playing
+pub mod Turns

@@ -16,3 +16,4 @@ pub mod Play
 pub mod Mix
 pub mod Scripted
 pub mod Players
+pub mod Laws
