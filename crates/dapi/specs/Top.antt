@@ -56,6 +56,10 @@ module _ {K : Type 0} (tables : K → Option Tables) (failed : K → ℕ) (words
         (IsUnplayed (record { journal = []; failed = opened.count; times = times }) (record { journal = history; failed = failed kept; times = later }) traces before after)
     pub leaves : Leaves opened.start history
 
+  -- a run ended so, or a mix so
+  abbrev pub Ends : List ℕ → Option (List ℤ) → Writing → Writing → ((List (List ℕ) → List ℕ → Type 0) → Type 0) → ((List (List Request) → List ℕ → List ℕ → Type 0) → (ℕ → Type 0) → Type 0) → Type 0
+  Ends seed times before after of_run of_mix = Runs seed times of_run ⊎ Mixes seed times before after of_mix
+
   -- the store wasn't opened; of the missing collections some first ones were made, in order
   pub record FailsOpening : Type 0 where
     pub keyspace : List ℕ
