@@ -75,11 +75,15 @@ pub record Plays (keyspace seed : List ℕ) (start : Option State) (base : ℕ) 
   pub drawn : AllDrawn seed base first exchanges
   pub text : output ≡ replies_from 0 exchanges ++ writes_line (writes_in more)
 
--- so many sessions were opened, but no step was made, and nothing was written
-pub record IsUnplayed (before after : Scene) (traces : List (List Trace)) (out now : Writing) (count : ℕ) : Type 0 where
+-- so many sessions were opened behind the history, and nothing else was done
+pub record OpensAlone (before after : Scene) (count : ℕ) : Type 0 where
   pub journal : after.journal ≡ before.journal ++ openings (opened_in before.journal) count
   pub failed : after.failed ≡ before.failed
   pub times : after.times ≡ before.times
+
+-- of so many sessions none made a step, and nothing was written
+pub record IsUnplayed (before after : Scene) (traces : List (List Trace)) (out now : Writing) (count : ℕ) : Type 0 where
+  pub opens : OpensAlone before after count
   pub traces_are : traces ≡ []
   pub unwritten : Takes out [] now
 
