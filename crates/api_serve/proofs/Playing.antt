@@ -62,6 +62,7 @@ record Moved (start : Option State) (keyspace : List ℕ) (requests : List Reque
   to : Exchange
   later : IsLater x to
   adds : Adds k low high H H' x.trace to.trace
+  faults : low ≤ high
   item : AddsItem x.trace to.trace ⊎ ((now.present ≡ None) × IsCut to.asking to.reply)
   then : ((now.present ≡ Some to) × (now.served ≡ xs)) ⊎ ((now.present ≡ None) × (now.served ≡ xs ++ to ∷ []))
   left : now.left ≡ l
@@ -91,14 +92,15 @@ module _ (laws : Laws) where
 
   -- a step of the task under way
   moved : (start : Option State) (keyspace : List ℕ) (requests : List Request) (stream : Stream) (H H' : List Entry) (low high : ℕ) (held held' : Held) (task : Task) (l : List Request) (xs : List Exchange)
-      → IsHeld keyspace requests stream (record held { task = Some task }) (busy l xs (cut_off task)) → StepsTask start H H' low high held held' task → ForSome start (λ base. IsJournal base H')
+      → IsHeld keyspace requests stream (record held { task = Some task }) (busy l xs (cut_off task)) → StepsTask start H H' low high held held' task → low ≤ high → ForSome start (λ base. IsJournal base H')
       → Moved start keyspace requests stream task.session (cut_off task) l xs held' H H' low high
-  moved start keyspace requests stream H H' low high held held' task l xs is s journal = ⊎_elim
+  moved start keyspace requests stream H H' low high held held' task l xs is s rises journal = ⊎_elim
       (λ t. let to = cut_off s.later in let same = later_is task s.later (NoMemory (accepted_by task.state)) (NoMemory (accepted_by s.later.state)) s.same in record {
         now = busy l xs to;
         to = to;
         later = same;
         adds = s.adds;
+        faults = rises;
         item = inl t.3;
         then = inl (refl, refl);
         left = refl;
@@ -121,6 +123,7 @@ module _ (laws : Laws) where
         to = to;
         later = same;
         adds = s.adds;
+        faults = rises;
         item = ⊎_elim (λ a. inl a) (λ e. inr (refl, (accepted_by task.state, e))) t.3;
         then = inr (refl, refl);
         left = refl;
@@ -141,15 +144,15 @@ module _ (laws : Laws) where
 
   -- the step of the request under way
   pub goes_on : (start : Option State) (keyspace : List ℕ) (H H' : List Entry) (low high : ℕ) (times : Option (List ℤ)) (held₀ held held' : Held) (task : Task) → held₀ ≡ record held { task = Some task } → task.session ≡ held₀.session
-      → StepsTask start H H' low high held held' task → ForSome start (λ base. IsJournal base H') → StepsOn start keyspace 1 held₀ held' (scene_of H low times) (scene_of H' high times)
-  goes_on start keyspace H H' low high times held₀ held held' task taken session s journal requests stream p is =
+      → StepsTask start H H' low high held held' task → low ≤ high → ForSome start (λ base. IsJournal base H') → StepsOn start keyspace 1 held₀ held' (scene_of H low times) (scene_of H' high times)
+  goes_on start keyspace H H' low high times held₀ held held' task taken session s rises journal requests stream p is =
       let present : p.present ≡ Some (cut_off task) = is.present ∙ ap (λ (h : Held). option_map cut_off h.task) taken in
       let p_is : p ≡ busy p.left p.served (cut_off task) = λ i. record { left = p.left; served = p.served; present = present i } in
       let busy_is = subst (λ (h : Held). IsHeld keyspace requests stream h (busy p.left p.served (cut_off task))) taken (subst (IsHeld keyspace requests stream held₀) p_is is) in
-      let m = moved start keyspace requests stream H H' low high held held' task p.left p.served busy_is s journal in
+      let m = moved start keyspace requests stream H H' low high held held' task p.left p.served busy_is s rises journal in
       subst (λ k. Reaches start keyspace requests stream k 1 p held' (scene_of H low times) (scene_of H' high times)) session (record {
         now = m.now;
-        works = (m.now, scene_of H' high times, record { from = cut_off task; to = m.to; taken = inl (present, m.left, refl); later = m.later; adds = m.adds; item = m.item; then = m.then }, (refl, refl));
+        works = (m.now, scene_of H' high times, record { from = cut_off task; to = m.to; taken = inl (present, m.left, refl); later = m.later; adds = m.adds; faults = m.faults; item = m.item; then = m.then }, (refl, refl));
         is_held = m.is_held;
         session = λ base told was. m.session base told (subst (λ (q : Player). IsSession base H task.session (begun_by q)) p_is was);
       })
@@ -159,8 +162,8 @@ module _ (laws : Laws) where
       → held₀.task ≡ None → held₀.left.items ≡ request ∷ rest → held.left.items ≡ rest → held.replies ≡ held₀.replies → held.traces ≡ held₀.traces
       → MakesTask keyspace held₀.session moment request (stream_of_ids held₀.ids) (stream_of_ids held.ids) task
       → ForSome times (λ ts. moment ≡ next_time ts) → times' ≡ option_map times_after times
-      → StepsTask start H H' low high held held' task → ForSome start (λ base. IsJournal base H') → StepsOn start keyspace 1 held₀ held' (scene_of H low times) (scene_of H' high times')
-  begins_with start keyspace H H' low high times times' held₀ held held' moment request rest task none was now replies traces made gives clock s journal requests stream p is =
+      → StepsTask start H H' low high held held' task → low ≤ high → ForSome start (λ base. IsJournal base H') → StepsOn start keyspace 1 held₀ held' (scene_of H low times) (scene_of H' high times')
+  begins_with start keyspace H H' low high times times' held₀ held held' moment request rest task none was now replies traces made gives clock s rises journal requests stream p is =
       let present : p.present ≡ None = is.present ∙ ap (option_map cut_off) none in
       let p_is : p ≡ free p.left p.served = λ i. record { left = p.left; served = p.served; present = present i } in
       let free_is : IsHeld keyspace requests stream held₀ (free p.left p.served) = subst (IsHeld keyspace requests stream held₀) p_is is in
@@ -177,7 +180,7 @@ module _ (laws : Laws) where
         drawn = drawn_append stream p.served (x ∷ []) free_is.drawn (made.ids_are ∙ ap (drawn (draws_of x.asking)) free_is.ids, tt);
         ids = made.left_is ∙ ap (after_drawing (draws_of x.asking)) free_is.ids ∙ sym (left_append stream p.served (x ∷ []));
       } in
-      let m = moved start keyspace requests stream H H' low high held held' task rest p.served busy_is s journal in
+      let m = moved start keyspace requests stream H H' low high held held' task rest p.served busy_is s rises journal in
       subst (λ k. Reaches start keyspace requests stream k 1 p held' (scene_of H low times) (scene_of H' high times')) made.session_is (record {
         now = m.now;
         works = (m.now, scene_of H' high times', record {
@@ -186,6 +189,7 @@ module _ (laws : Laws) where
           taken = inr (record { free = present; request = request; next = next ∙ ap (λ l. request ∷ l) (sym m.left); asked = made.asked; moment = λ ts told. made.moment_is ∙ gives ts told; clock = clock; trace = made.trace });
           later = m.later;
           adds = m.adds;
+          faults = m.faults;
           item = m.item;
           then = m.then;
         }, (refl, refl));
@@ -211,6 +215,7 @@ module _ (laws : Laws) where
           taken = inr (record { free = present; request = request; next = next; asked = a.asked; moment = λ ts told. a.moment_is ∙ gives ts told; clock = clock; trace = a.trace });
           later = record { asking = refl; moment = refl; ids = refl };
           adds = inl (refl, refl);
+          faults = omega arith;
           item = inr (refl, a.cut);
           then = inr (refl, refl);
         }, (refl, refl));
