@@ -11,7 +11,8 @@ use Rattle.reply_env.specs.declared.request.Request.{Request}
 use Rattle.cmd_grammar.specs.Commands.{command_tree}
 use Rattle.store_core.specs.State.{State}
 use Rattle.store_core.specs.Journal.{IsJournal}
-use Rattle.store_core.specs.Counts.{AllBy}
+use Rattle.store_core.specs.Counts.{AllBy, opened_in}
+use Rattle.store_core.specs.Store.{Stored, SameBase, IsLawful}
 use Rattle.store_core.specs.declared.entry.Entry.{Entry}
 use Rattle.cmd_tasks.specs.Ids.{drawn, after_drawing, stream_of_ids}
 use Rattle.cmd_tasks.specs.Moves.{accepted_by, left}
@@ -28,7 +29,7 @@ use Rattle.api_serve.specs.Play.{Player, Scene, begun_by, and_present, IsDone, I
 use Rattle.api_serve.specs.Players.{cut_off, scene_of, under_way, unserved_by, IsIdle, CanGoOn, IsHeld, StepsTask, WorksOn, Reaches, StepsOn, StepsOnce}
 use Rattle.api_serve.specs.declared.player.Player.{Player as Held}
 use Rattle.api_serve.specs.declared.one.Answered.{Answered}
-use Rattle.api_serve.proofs.Makes.{AreAsked-append, AreTraces-append, drawn_append, left_append}
+use Rattle.api_serve.proofs.Makes.{AreAsked-append, AreTraces-append, drawn_append, left_append, Grown-none, Grown-append, known_later}
 
 -- ---- a request that is answered anew, as the last one
 
@@ -298,3 +299,52 @@ fit_at_once start H held₀ held' request rest answered fit was now none replies
       room = let more : length held'.replies.items ≡ length held₀.replies.items + 1 = ap length replies ∙ length_more held₀.replies.items answered.reply in omega (arith, fit.room, more, cap, free_now, lefts);
       room_for_traces = let more : length held'.traces.items ≡ length held₀.traces.items + 1 = ap length traces ∙ length_more held₀.traces.items answered.trace in omega (arith, fit.room_for_traces, more, cap', free_now, lefts);
     }
+
+-- ---- a session so far, in the code's words
+
+module _ {K : Type 0} (failed : K → ℕ) where
+  pub record IsSoFar (s₀ s : Stored K) (h₀ h : Held) : Type 0 where
+    pub base : SameBase s₀ s
+    pub fit : CanGoOn s.start s.journal h
+    pub session : h.session ≡ h₀.session
+    pub grown : Grown h₀.session s₀.journal (failed s₀.keeper) s.journal (failed s.keeper)
+    pub lawful : IsLawful s
+
+  pub so_begins : (s : Stored K) (h : Held) → CanGoOn s.start s.journal h → IsLawful s → IsSoFar s s h h
+  so_begins s h fit lawful = record { base = (refl, refl, refl); fit = fit; session = refl; grown = Grown-none h.session s.journal (failed s.keeper); lawful = lawful }
+
+  pub so_goes_on : (s₀ s t : Stored K) (h₀ h g : Held) → IsSoFar s₀ s h₀ h → SameBase s t → CanGoOn t.start t.journal g → g.session ≡ h.session → Grown h.session s.journal (failed s.keeper) t.journal (failed t.keeper) → IsLawful t → IsSoFar s₀ t h₀ g
+  so_goes_on s₀ s t h₀ h g so base fit session grown lawful = record {
+    base = (base.0 ∙ so.base.0, base.1 ∙ so.base.1, base.2 ∙ so.base.2);
+    fit = fit;
+    session = session ∙ so.session;
+    grown = Grown-append h₀.session s₀.journal s.journal t.journal (failed s₀.keeper) (failed s.keeper) (failed t.keeper) so.grown (subst (λ k. Grown k s.journal (failed s.keeper) t.journal (failed t.keeper)) so.session grown);
+    lawful = lawful;
+  }
+
+  pub so_known : (s₀ s : Stored K) (h₀ h : Held) → IsSoFar s₀ s h₀ h → h₀.session < opened_in s₀.journal → h.session < opened_in s.journal
+  so_known s₀ s h₀ h so known = let later = known_later h₀.session s₀.journal s.journal (failed s₀.keeper) (failed s.keeper) so.grown known in omega (arith, later, so.session)
+
+  -- the room that a request under way has
+  pub room_of : (s : Stored K) (h held : Held) (task : Task) → h ≡ record held { task = Some task } → CanGoOn s.start s.journal h → (length held.replies.items < vec_capacity held.replies) × (length held.traces.items < vec_capacity held.traces)
+  room_of s h held task is fit = let f = subst (CanGoOn s.start s.journal) is fit in (omega (arith, f.room), omega (arith, f.room_for_traces))
+
+  pub stands_of : (s : Stored K) (h held : Held) (task : Task) → h ≡ record held { task = Some task } → CanGoOn s.start s.journal h → (task.session ≡ h.session) × StandsOn s.start s.journal task
+  stands_of s h held task is fit = let f = subst (CanGoOn s.start s.journal) is fit in (f.stands.0 ∙ ap (λ (z : Held). z.session) (sym is), f.stands.1)
+
+  -- after a step of the task under way
+  pub so_stepped : (s t : Stored K) (h held g : Held) (task : Task) → h ≡ record held { task = Some task } → CanGoOn s.start s.journal h → StepsTask s.start s.journal t.journal (failed s.keeper) (failed t.keeper) held g task
+      → failed s.keeper ≤ failed t.keeper → SameBase s t → IsLawful t → IsSoFar s t h g
+  so_stepped s t h held g task is fit steps faults base lawful =
+      let same : h.session ≡ held.session = ap (λ (z : Held). z.session) is in
+      let of_task = (stands_of s h held task is fit).0 in record {
+        base = base;
+        fit = fit_later s.start t.start s.journal t.journal (failed s.keeper) (failed t.keeper) held g task base.1 (subst (CanGoOn s.start s.journal) is fit) steps;
+        session = steps.rest.0 ∙ sym same;
+        grown = subst (λ k. Grown k s.journal (failed s.keeper) t.journal (failed t.keeper)) of_task (grown_by task.session (failed s.keeper) (failed t.keeper) s.journal t.journal task.trace.items.items steps.later.trace.items.items steps.adds faults);
+        lawful = lawful;
+      }
+
+  -- the journal of a lawful store is one, where told
+  pub journal_of : (s t : Stored K) → SameBase s t → IsLawful t → ForSome s.start (λ b. IsJournal b t.journal)
+  journal_of s t base lawful = λ b told. (lawful b (base.1 ∙ told)).0

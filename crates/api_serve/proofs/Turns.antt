@@ -1,5 +1,6 @@
 -- All sessions of a play: a step of one, with the others beside it.
-use Rattle.std.proofs.Common.{◌≡◌, ◌≢◌, ◌⊎◌, ⊎_elim, inl, inr, ℕ, ℤ, zero, suc, ◌+◌, ◌<◌, ◌≤◌, List, [], ◌∷◌, ◌++◌, length, map, set, replicate, false, Option, Some, None, refl, sym, ap, ◌∙◌, subst, append_assoc, arith, ne_eqb}
+use Rattle.std.proofs.Common.{◌≡◌, ◌≢◌, ◌⊎◌, ⊎_elim, inl, inr, ℕ, ℤ, zero, suc, ◌+◌, ◌<◌, ◌≤◌, List, [], ◌∷◌, ◌++◌, length, map, set, take, replicate, false, Option, Some, None, refl, sym, ap, ◌∙◌, subst, append_assoc, arith, ne_eqb}
+use Rattle.std.proofs.lemmas.List.{append-nil, length-set, length-append, take_all}
 use Rattle.std.specs.Prelude.{IfSome, slice_get}
 use Rattle.std.specs.Option.{ForSome, option_map}
 use Rattle.std.specs.List.{AllByRecursion as Each}
@@ -8,15 +9,17 @@ use Rattle.reply_env.specs.declared.request.Request.{Request}
 use Rattle.store_core.specs.State.{State}
 use Rattle.store_core.specs.Journal.{IsJournal}
 use Rattle.store_core.specs.Counts.{AllBy, by_of, opened_in}
+use Rattle.store_core.specs.Store.{Stored, SameBase, IsLawful}
 use Rattle.store_core.specs.declared.entry.Entry.{Entry}
 use Rattle.store_core.specs.declared.entry.Entry.TheVariants.{Opened, Created, Dropped, Changed, Failed}
 use Rattle.cmd_tasks.specs.Ids.{begins}
 use Rattle.cmd_tasks.specs.Session.{Exchange, IsSession, AreSessions, NoWork, is_work}
 use Rattle.cmd_tasks.specs.Stands.{StandsOn}
 use Rattle.cmd_tasks.specs.declared.task.Task.{Task}
+use Rattle.api_serve.specs.Grown.{Grown}
 use Rattle.api_serve.specs.Laws.{Laws}
-use Rattle.api_serve.specs.Play.{Player, Scene, Standing, begun_by, IsDone, Works, GetsStep, GetSteps}
-use Rattle.api_serve.specs.Players.{cut_off, scene_of, IsIdle, CanGoOn, IsHeld, WorksOn, Reaches, StepsOn, StepsOnce, AreNumbered, ArePlayable, AreHeld, AreStanding, Gets, TakesTurns}
+use Rattle.api_serve.specs.Play.{Player, Scene, Standing, begun_by, IsDone, Works, GetsStep, GetSteps, one_by_one}
+use Rattle.api_serve.specs.Players.{cut_off, scene_of, IsIdle, CanGoOn, IsHeld, WorksOn, Reaches, StepsOn, StepsOnce, AreNumbered, ArePlayable, AreHeld, AreStanding, Gets, TakesTurns, PlaysOut}
 use Rattle.api_serve.specs.declared.player.Player.{Player as Held}
 use Rattle.api_serve.proofs.Makes.{opened_grows}
 
@@ -58,6 +61,10 @@ pub each_at : {X : Type 0} (P : X → Type 0) (xs : List X) (i : ℕ) (x : X) �
 each_at P [] i x h e = cc
 each_at P (y ∷ xs) zero x h e = subst P (some_is e) h.0
 each_at P (y ∷ xs) (suc i) x h e = each_at P xs i x h.1 e
+
+each_none : {X : Type 0} (P : X → Type 0) (xs : List X) → Each P (take 0 xs)
+each_none P [] = tt
+each_none P (x ∷ xs) = tt
 
 -- ---- entries of another session
 
@@ -217,3 +224,91 @@ module _ (laws : Laws) where
               })))
       (λ f. takes_steps start keyspace H H' more low high times times' i 1 held h h' at same f longer own journal)
       once
+
+-- ---- turns taken so far, in the code's words
+
+one_more : (k c : ℕ) (counts : List ℕ) → one_by_one k (counts ++ c ∷ []) ≡ one_by_one k counts ++ replicate c (k + length counts)
+one_more k c [] = let same : k ≡ k + 0 = omega arith in append-nil (replicate c k) ∙ ap (replicate c) same
+one_more k c (d ∷ counts) =
+    let same : (k + 1) + length counts ≡ k + length (d ∷ counts) = omega arith in
+    ap (λ l. replicate d k ++ l) (one_more (k + 1) c counts ∙ ap (λ n. one_by_one (k + 1) counts ++ replicate c n) same)
+    ∙ sym (append_assoc (replicate d k) (one_by_one (k + 1) counts) (replicate c (k + length (d ∷ counts))))
+
+each_first : {X : Type 0} (P : X → Type 0) (xs : List X) (i : ℕ) (x : X) → Each P (take i xs) → P x → Each P (take (suc i) (set xs i x))
+each_first P [] zero x h p = tt
+each_first P [] (suc i) x h p = tt
+each_first P (y ∷ xs) zero x h p = (p, tt)
+each_first P (y ∷ xs) (suc i) x h p = (h.0, each_first P xs i x h.1 p)
+
+module _ (laws : Laws) {K : Type 0} (failed : K → ℕ) (keyspace : List ℕ) (s₀ : Stored K) (times₀ : Option (List ℤ)) (held₀ : List Held) where
+  pub record IsTurned (taken : List ℕ) (s : Stored K) (times : Option (List ℤ)) (held : List Held) : Type 0 where
+    pub takes : TakesTurns s₀.start keyspace taken held₀ held (scene_of s₀.journal (failed s₀.keeper) times₀) (scene_of s.journal (failed s.keeper) times)
+    pub playable : ArePlayable s.start s.journal held
+    pub long : length held ≡ length held₀
+    pub longer : (more : List Entry) × (s.journal ≡ s₀.journal ++ more)
+    pub faults : failed s₀.keeper ≤ failed s.keeper
+    pub base : SameBase s₀ s
+    pub lawful : IsLawful s
+
+  pub turned_begins : ArePlayable s₀.start s₀.journal held₀ → IsLawful s₀ → IsTurned [] s₀ times₀ held₀
+  turned_begins playable lawful = record {
+    takes = no_turns s₀.start keyspace held₀ (scene_of s₀.journal (failed s₀.keeper) times₀);
+    playable = playable;
+    long = refl;
+    longer = ([], sym (append-nil s₀.journal));
+    faults = omega arith;
+    base = (refl, refl, refl);
+    lawful = lawful;
+  }
+
+  module _ (taken : List ℕ) (s t : Stored K) (times times' : Option (List ℤ)) (held : List Held) (i : ℕ) (h g : Held) (so : IsTurned taken s times held) (at : slice_get held i ≡ Some h)
+      (same : g.session ≡ h.session) (fit : CanGoOn t.start t.journal g) (grown : Grown h.session s.journal (failed s.keeper) t.journal (failed t.keeper)) (base : SameBase s t) (lawful : IsLawful t) where
+    -- with turns that were taken from there
+    turned_by : (turns : List ℕ) → TakesTurns s.start keyspace turns held (set held i g) (scene_of s.journal (failed s.keeper) times) (scene_of t.journal (failed t.keeper) times') → IsTurned (taken ++ turns) t times' (set held i g)
+    turned_by turns takes = record {
+      takes = more_turns s₀.start keyspace taken turns held₀ held (set held i g) _ (scene_of s.journal (failed s.keeper) times) _ so.takes
+          (subst (λ (o : Option State). TakesTurns o keyspace turns held (set held i g) (scene_of s.journal (failed s.keeper) times) (scene_of t.journal (failed t.keeper) times')) so.base.1 takes);
+      playable = playable_later laws s.start t.start s.journal t.journal grown.more i held h g base.1 grown.journal_is grown.alone at same fit so.playable;
+      long = length-set held i g ∙ so.long;
+      longer = (so.longer.0 ++ grown.more, grown.journal_is ∙ ap (λ J. J ++ grown.more) so.longer.1 ∙ append_assoc s₀.journal so.longer.0 grown.more);
+      faults = omega (arith, so.faults, grown.grows);
+      base = (base.0 ∙ so.base.0, base.1 ∙ so.base.1, base.2 ∙ so.base.2);
+      lawful = lawful;
+    }
+
+    journal : ForSome s.start (λ b. IsJournal b t.journal)
+    journal b told = (lawful b (base.1 ∙ told)).0
+
+    pub turned_once : StepsOnce s.start keyspace h g (scene_of s.journal (failed s.keeper) times) (scene_of t.journal (failed t.keeper) times') → IsTurned (taken ++ i ∷ []) t times' (set held i g)
+    turned_once once = turned_by (i ∷ []) (takes_turn laws s.start keyspace s.journal t.journal grown.more (failed s.keeper) (failed t.keeper) times times' i held h g at same once grown.journal_is grown.alone journal)
+
+    pub turned_on : (count : ℕ) → StepsOn s.start keyspace count h g (scene_of s.journal (failed s.keeper) times) (scene_of t.journal (failed t.keeper) times') → IsTurned (taken ++ replicate count i) t times' (set held i g)
+    turned_on count steps = turned_by (replicate count i) (takes_steps laws s.start keyspace s.journal t.journal grown.more (failed s.keeper) (failed t.keeper) times times' i count held h g at same steps grown.journal_is grown.alone journal)
+
+  -- the first so many sessions came to their ends
+  pub record AreRunOut (turns : List ℕ) (ended : ℕ) (s : Stored K) (times : Option (List ℤ)) (held : List Held) : Type 0 where
+    pub counts : List ℕ
+    pub count_is : length counts ≡ ended
+    pub turned : IsTurned (turns ++ one_by_one 0 counts) s times held
+    pub idle : Each IsIdle (take ended held)
+
+  pub run_out_begins : (turns : List ℕ) (s : Stored K) (times : Option (List ℤ)) (held : List Held) → IsTurned turns s times held → AreRunOut turns 0 s times held
+  run_out_begins turns s times held so = record { counts = []; count_is = refl; turned = subst (λ l. IsTurned l s times held) (sym (append-nil turns)) so; idle = each_none IsIdle held }
+
+  pub run_out_more : (turns : List ℕ) (i : ℕ) (s t : Stored K) (times times' : Option (List ℤ)) (held : List Held) (h g : Held) → AreRunOut turns i s times held → slice_get held i ≡ Some h → g.session ≡ h.session → CanGoOn t.start t.journal g
+      → Grown h.session s.journal (failed s.keeper) t.journal (failed t.keeper) → SameBase s t → IsLawful t
+      → ((count : ℕ) × StepsOn s.start keyspace count h g (scene_of s.journal (failed s.keeper) times) (scene_of t.journal (failed t.keeper) times')) → IsIdle g → AreRunOut turns (i + 1) t times' (set held i g)
+  run_out_more turns i s t times times' held h g so at same fit grown base lawful steps idle =
+      let now = turned_on (turns ++ one_by_one 0 so.counts) s t times times' held i h g so.turned at same fit grown base lawful steps.0 steps.1 in
+      let more : (turns ++ one_by_one 0 so.counts) ++ replicate steps.0 i ≡ turns ++ one_by_one 0 (so.counts ++ steps.0 ∷ []) =
+          append_assoc turns (one_by_one 0 so.counts) (replicate steps.0 i) ∙ ap (λ l. turns ++ l) (ap (λ n. one_by_one 0 so.counts ++ replicate steps.0 n) (sym so.count_is) ∙ sym (one_more 0 steps.0 so.counts)) in
+      let next : suc i ≡ i + 1 = omega arith in record {
+        counts = so.counts ++ steps.0 ∷ [];
+        count_is = length-append so.counts (steps.0 ∷ []) ∙ ap (λ n. n + 1) so.count_is;
+        turned = subst (λ l. IsTurned l t times' (set held i g)) more now;
+        idle = subst (λ n. Each IsIdle (take n (set held i g))) next (each_first IsIdle held i g so.idle idle);
+      }
+
+  pub run_out_whole : (turns : List ℕ) (ended : ℕ) (s : Stored K) (times : Option (List ℤ)) (held : List Held) → length held ≤ ended → AreRunOut turns ended s times held → ended ≡ length held₀
+      → PlaysOut s₀.start keyspace turns held₀ held (scene_of s₀.journal (failed s₀.keeper) times₀) (scene_of s.journal (failed s.keeper) times)
+  run_out_whole turns ended s times held long so all = record { counts = so.counts; each = so.count_is ∙ all; steps = so.turned.takes; idle = subst (Each IsIdle) (take_all ended held long) so.idle }
