@@ -240,7 +240,7 @@ each_first P [] (suc i) x h p = tt
 each_first P (y ∷ xs) zero x h p = (p, tt)
 each_first P (y ∷ xs) (suc i) x h p = (h.0, each_first P xs i x h.1 p)
 
-module _ (laws : Laws) {K : Type 0} (failed : K → ℕ) (keyspace : List ℕ) (s₀ : Stored K) (times₀ : Option (List ℤ)) (held₀ : List Held) where
+module _ {K : Type 0} (failed : K → ℕ) (keyspace : List ℕ) (s₀ : Stored K) (times₀ : Option (List ℤ)) (held₀ : List Held) where
   pub record IsTurned (taken : List ℕ) (s : Stored K) (times : Option (List ℤ)) (held : List Held) : Type 0 where
     pub takes : TakesTurns s₀.start keyspace taken held₀ held (scene_of s₀.journal (failed s₀.keeper) times₀) (scene_of s.journal (failed s.keeper) times)
     pub playable : ArePlayable s.start s.journal held
@@ -261,10 +261,25 @@ module _ (laws : Laws) {K : Type 0} (failed : K → ℕ) (keyspace : List ℕ) (
     lawful = lawful;
   }
 
-  module _ (taken : List ℕ) (s t : Stored K) (times times' : Option (List ℤ)) (held : List Held) (i : ℕ) (h g : Held) (so : IsTurned taken s times held) (at : slice_get held i ≡ Some h)
+  -- the first so many sessions came to their ends
+  pub record AreRunOut (turns : List ℕ) (ended : ℕ) (s : Stored K) (times : Option (List ℤ)) (held : List Held) : Type 0 where
+    pub counts : List ℕ
+    pub count_is : length counts ≡ ended
+    pub turned : IsTurned (turns ++ one_by_one 0 counts) s times held
+    pub idle : Each IsIdle (take ended held)
+
+  pub run_out_begins : (turns : List ℕ) (s : Stored K) (times : Option (List ℤ)) (held : List Held) → IsTurned turns s times held → AreRunOut turns 0 s times held
+  run_out_begins turns s times held so = record { counts = []; count_is = refl; turned = subst (λ l. IsTurned l s times held) (sym (append-nil turns)) so; idle = each_none IsIdle held }
+
+  pub run_out_whole : (turns : List ℕ) (ended : ℕ) (s : Stored K) (times : Option (List ℤ)) (held : List Held) → length held ≤ ended → AreRunOut turns ended s times held → ended ≡ length held₀
+      → PlaysOut s₀.start keyspace turns held₀ held (scene_of s₀.journal (failed s₀.keeper) times₀) (scene_of s.journal (failed s.keeper) times)
+  run_out_whole turns ended s times held long so all = record { counts = so.counts; each = so.count_is ∙ all; steps = so.turned.takes; idle = subst (Each IsIdle) (take_all ended held long) so.idle }
+
+module _ (laws : Laws) {K : Type 0} (failed : K → ℕ) (keyspace : List ℕ) (s₀ : Stored K) (times₀ : Option (List ℤ)) (held₀ : List Held) where
+  module _ (taken : List ℕ) (s t : Stored K) (times times' : Option (List ℤ)) (held : List Held) (i : ℕ) (h g : Held) (so : IsTurned failed keyspace s₀ times₀ held₀ taken s times held) (at : slice_get held i ≡ Some h)
       (same : g.session ≡ h.session) (fit : CanGoOn t.start t.journal g) (grown : Grown h.session s.journal (failed s.keeper) t.journal (failed t.keeper)) (base : SameBase s t) (lawful : IsLawful t) where
     -- with turns that were taken from there
-    turned_by : (turns : List ℕ) → TakesTurns s.start keyspace turns held (set held i g) (scene_of s.journal (failed s.keeper) times) (scene_of t.journal (failed t.keeper) times') → IsTurned (taken ++ turns) t times' (set held i g)
+    turned_by : (turns : List ℕ) → TakesTurns s.start keyspace turns held (set held i g) (scene_of s.journal (failed s.keeper) times) (scene_of t.journal (failed t.keeper) times') → IsTurned failed keyspace s₀ times₀ held₀ (taken ++ turns) t times' (set held i g)
     turned_by turns takes = record {
       takes = more_turns s₀.start keyspace taken turns held₀ held (set held i g) _ (scene_of s.journal (failed s.keeper) times) _ so.takes
           (subst (λ (o : Option State). TakesTurns o keyspace turns held (set held i g) (scene_of s.journal (failed s.keeper) times) (scene_of t.journal (failed t.keeper) times')) so.base.1 takes);
@@ -279,25 +294,15 @@ module _ (laws : Laws) {K : Type 0} (failed : K → ℕ) (keyspace : List ℕ) (
     journal : ForSome s.start (λ b. IsJournal b t.journal)
     journal b told = (lawful b (base.1 ∙ told)).0
 
-    pub turned_once : StepsOnce s.start keyspace h g (scene_of s.journal (failed s.keeper) times) (scene_of t.journal (failed t.keeper) times') → IsTurned (taken ++ i ∷ []) t times' (set held i g)
+    pub turned_once : StepsOnce s.start keyspace h g (scene_of s.journal (failed s.keeper) times) (scene_of t.journal (failed t.keeper) times') → IsTurned failed keyspace s₀ times₀ held₀ (taken ++ i ∷ []) t times' (set held i g)
     turned_once once = turned_by (i ∷ []) (takes_turn laws s.start keyspace s.journal t.journal grown.more (failed s.keeper) (failed t.keeper) times times' i held h g at same once grown.journal_is grown.alone journal)
 
-    pub turned_on : (count : ℕ) → StepsOn s.start keyspace count h g (scene_of s.journal (failed s.keeper) times) (scene_of t.journal (failed t.keeper) times') → IsTurned (taken ++ replicate count i) t times' (set held i g)
+    pub turned_on : (count : ℕ) → StepsOn s.start keyspace count h g (scene_of s.journal (failed s.keeper) times) (scene_of t.journal (failed t.keeper) times') → IsTurned failed keyspace s₀ times₀ held₀ (taken ++ replicate count i) t times' (set held i g)
     turned_on count steps = turned_by (replicate count i) (takes_steps laws s.start keyspace s.journal t.journal grown.more (failed s.keeper) (failed t.keeper) times times' i count held h g at same steps grown.journal_is grown.alone journal)
 
-  -- the first so many sessions came to their ends
-  pub record AreRunOut (turns : List ℕ) (ended : ℕ) (s : Stored K) (times : Option (List ℤ)) (held : List Held) : Type 0 where
-    pub counts : List ℕ
-    pub count_is : length counts ≡ ended
-    pub turned : IsTurned (turns ++ one_by_one 0 counts) s times held
-    pub idle : Each IsIdle (take ended held)
-
-  pub run_out_begins : (turns : List ℕ) (s : Stored K) (times : Option (List ℤ)) (held : List Held) → IsTurned turns s times held → AreRunOut turns 0 s times held
-  run_out_begins turns s times held so = record { counts = []; count_is = refl; turned = subst (λ l. IsTurned l s times held) (sym (append-nil turns)) so; idle = each_none IsIdle held }
-
-  pub run_out_more : (turns : List ℕ) (i : ℕ) (s t : Stored K) (times times' : Option (List ℤ)) (held : List Held) (h g : Held) → AreRunOut turns i s times held → slice_get held i ≡ Some h → g.session ≡ h.session → CanGoOn t.start t.journal g
+  pub run_out_more : (turns : List ℕ) (i : ℕ) (s t : Stored K) (times times' : Option (List ℤ)) (held : List Held) (h g : Held) → AreRunOut failed keyspace s₀ times₀ held₀ turns i s times held → slice_get held i ≡ Some h → g.session ≡ h.session → CanGoOn t.start t.journal g
       → Grown h.session s.journal (failed s.keeper) t.journal (failed t.keeper) → SameBase s t → IsLawful t
-      → ((count : ℕ) × StepsOn s.start keyspace count h g (scene_of s.journal (failed s.keeper) times) (scene_of t.journal (failed t.keeper) times')) → IsIdle g → AreRunOut turns (i + 1) t times' (set held i g)
+      → ((count : ℕ) × StepsOn s.start keyspace count h g (scene_of s.journal (failed s.keeper) times) (scene_of t.journal (failed t.keeper) times')) → IsIdle g → AreRunOut failed keyspace s₀ times₀ held₀ turns (i + 1) t times' (set held i g)
   run_out_more turns i s t times times' held h g so at same fit grown base lawful steps idle =
       let now = turned_on (turns ++ one_by_one 0 so.counts) s t times times' held i h g so.turned at same fit grown base lawful steps.0 steps.1 in
       let more : (turns ++ one_by_one 0 so.counts) ++ replicate steps.0 i ≡ turns ++ one_by_one 0 (so.counts ++ steps.0 ∷ []) =
@@ -305,10 +310,6 @@ module _ (laws : Laws) {K : Type 0} (failed : K → ℕ) (keyspace : List ℕ) (
       let next : suc i ≡ i + 1 = omega arith in record {
         counts = so.counts ++ steps.0 ∷ [];
         count_is = length-append so.counts (steps.0 ∷ []) ∙ ap (λ n. n + 1) so.count_is;
-        turned = subst (λ l. IsTurned l t times' (set held i g)) more now;
+        turned = subst (λ l. IsTurned failed keyspace s₀ times₀ held₀ l t times' (set held i g)) more now;
         idle = subst (λ n. Each IsIdle (take n (set held i g))) next (each_first IsIdle held i g so.idle idle);
       }
-
-  pub run_out_whole : (turns : List ℕ) (ended : ℕ) (s : Stored K) (times : Option (List ℤ)) (held : List Held) → length held ≤ ended → AreRunOut turns ended s times held → ended ≡ length held₀
-      → PlaysOut s₀.start keyspace turns held₀ held (scene_of s₀.journal (failed s₀.keeper) times₀) (scene_of s.journal (failed s.keeper) times)
-  run_out_whole turns ended s times held long so all = record { counts = so.counts; each = so.count_is ∙ all; steps = so.turned.takes; idle = subst (Each IsIdle) (take_all ended held long) so.idle }
