@@ -10,3 +10,4 @@ pub mod Opened
 pub mod Contests
 pub mod Playing
 pub mod Turns
+pub mod Changes

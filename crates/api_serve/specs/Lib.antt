@@ -17,3 +17,4 @@ pub mod Mix
 pub mod Scripted
 pub mod Players
 pub mod Laws
+pub mod Changes
