@@ -11,3 +11,4 @@ pub mod Contests
 pub mod Playing
 pub mod Turns
 pub mod Played
+pub mod Changes

@@ -18,3 +18,4 @@ pub mod Scripted
 pub mod Players
 pub mod Laws
 pub mod Mixed
+pub mod Changes

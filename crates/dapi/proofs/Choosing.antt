@@ -4,8 +4,10 @@ use Rattle.std.proofs.lemmas.List.{map-append, drop_more, take-append-drop}
 use Rattle.std.proofs.Math.Seq.{take-add}
 use Rattle.std.specs.List.{AllByRecursion as Each}
 use Rattle.doc_paths.specs.Name.{is_collection_name}
-use Rattle.dapi.specs.Words.{Choice, of_keyspace, of_collection, name_in, word_of, keyspaces_in, collections_in, keyspace_of, AreChoices, RunsOn, IsUsage, IsWordFault}
+use Rattle.dapi.specs.Words.{Choice, of_keyspace, of_collection, name_in, word_of, keyspaces_in, collections_in, command_word, AreChoices, AsksFor, IsUsage, IsWordFault}
 use Rattle.dapi.specs.Chosen.{kept_keyspace, HasChosen, Allows, Adds, Chooses, IsNoChoice}
+use Rattle.dapi.specs.declared.words.Cmd.{Cmd}
+use Rattle.dapi.specs.declared.words.Cmd.TheVariants.{Run, Mix}
 use Rattle.dapi.specs.declared.words.WordFault.{WordFault}
 use Rattle.dapi.specs.declared.words.WordFault.TheVariants.{Usage, NoMemory}
 use Rattle.dapi.specs.declared.words.Choices.{Choices}
@@ -149,39 +151,32 @@ allowed_here kept chosen (of_collection name) more keyspaces collections are =
     let room : length (collections_in chosen) < 100 = omega (arith, all, here, few) in
     (named_here chosen (of_collection name) more are.named, subst (λ (xs : List (List ℕ)). length xs < 100) collections room)
 
--- no run has words that begin so
-no_run : (words : List (List ℕ)) (word : List ℕ) (rest : List (List ℕ)) (kept : Choices) → HasChosen words kept → IsNoChoice word kept → IsUsage (codes "run" ∷ (words ++ word ∷ rest))
-no_run words word rest kept h none keyspace collections run =
-    let behind : words ++ word ∷ rest ≡ map word_of run.choices = Prim.cc run.words_are in
-    let s = split_here h.choices run.choices word rest (ap (λ ws. ws ++ word ∷ rest) (sym h.words_are) ∙ behind) in
-    none s.0 s.2 (allowed_here kept h.choices s.0 s.1 h.keyspaces h.collections (subst AreChoices {y = h.choices ++ s.0 ∷ s.1} s.3 run.allowed))
+-- no command has such options
+no_asking : (first : List ℕ) (words : List (List ℕ)) (word : List ℕ) (rest : List (List ℕ)) (kept : Choices) → HasChosen words kept → IsNoChoice word kept → IsUsage (first ∷ (words ++ word ∷ rest))
+no_asking first words word rest kept h none command keyspace collections asked =
+    let behind : words ++ word ∷ rest ≡ map word_of asked.choices = Prim.cc asked.words_are in
+    let s = split_here h.choices asked.choices word rest (ap (λ ws. ws ++ word ∷ rest) (sym h.words_are) ∙ behind) in
+    none s.0 s.2 (allowed_here kept h.choices s.0 s.1 h.keyspaces h.collections (subst AreChoices {y = h.choices ++ s.0 ∷ s.1} s.3 asked.allowed))
 
-pub no_options : (words : List (List ℕ)) (word : List ℕ) (rest all : List (List ℕ)) (kept : Choices) (fault : WordFault) → all ≡ words ++ word ∷ rest → HasChosen words kept → (fault ≡ Usage → IsNoChoice word kept) → IsWordFault (codes "run" ∷ all) fault
-no_options words word rest all kept Usage is h none = subst (λ (ws : List (List ℕ)). IsUsage (codes "run" ∷ ws)) (sym is) (no_run words word rest kept h (none refl))
-no_options words word rest all kept NoMemory is h none = tt
+pub no_options : (first : List ℕ) (words : List (List ℕ)) (word : List ℕ) (rest all : List (List ℕ)) (kept : Choices) (fault : WordFault) → all ≡ words ++ word ∷ rest → HasChosen words kept → (fault ≡ Usage → IsNoChoice word kept) → IsWordFault (first ∷ all) fault
+no_options first words word rest all kept Usage is h none = subst (λ (ws : List (List ℕ)). IsUsage (first ∷ ws)) (sym is) (no_asking first words word rest kept h (none refl))
+no_options first words word rest all kept NoMemory is h none = tt
 
--- no word, or another command
-pub no_word : IsUsage []
-no_word keyspace collections run = absurd (Prim.cc run.words_are)
+-- the words are of one command, and name their collections in one way
+same_command : (a b : Cmd) → command_word a ≡ command_word b → a ≡ b
+same_command Run Run e = refl
+same_command Mix Mix e = refl
+same_command Run Mix e = let head : ◌≡◌ {A = ℕ} 114 109 = ap (λ (xs : List ℕ). get_or xs 0 0) e in absurd (omega arith)
+same_command Mix Run e = let head : ◌≡◌ {A = ℕ} 109 114 = ap (λ (xs : List ℕ). get_or xs 0 0) e in absurd (omega arith)
 
-pub no_command : (command : List ℕ) (options : List (List ℕ)) → (command ≡ codes "run" → ⊥) → IsUsage (command ∷ options)
-no_command command options other keyspace collections run = other (Prim.cc run.words_are)
+module _ (words : List (List ℕ)) (command₁ command₂ : Cmd) (keyspace₁ keyspace₂ : List ℕ) (cs ds : List (List ℕ)) (a : AsksFor words command₁ keyspace₁ cs) (b : AsksFor words command₂ keyspace₂ ds) where
+  pub same_asking : command₁ ≡ command₂
+  same_asking = same_command command₁ command₂ (Prim.cc (a.words_are, b.words_are))
 
-pub runs_on : (options : List (List ℕ)) (kept : Choices) (keyspace : List ℕ) (collections : List (List ℕ)) → HasChosen options kept → keyspace ≡ keyspace_of (kept_keyspace kept.keyspace) → collections ≡ kept.collections.items
-    → RunsOn (codes "run" ∷ options) keyspace collections
-runs_on options kept keyspace collections h is are = record {
-  choices = h.choices;
-  words_are = ap (λ ws. codes "run" ∷ ws) h.words_are;
-  allowed = h.allowed;
-  keyspace_is = is ∙ ap keyspace_of (sym h.keyspaces);
-  collections_are = are ∙ sym h.collections;
-}
-
--- the words name their collections in one way
-pub same_collections : (words : List (List ℕ)) (keyspace₁ keyspace₂ : List ℕ) (cs ds : List (List ℕ)) → RunsOn words keyspace₁ cs → RunsOn words keyspace₂ ds → cs ≡ ds
-same_collections words keyspace₁ keyspace₂ cs ds a b =
-    let both : map word_of a.choices ≡ map word_of b.choices = Prim.cc (a.words_are, b.words_are) in
-    a.collections_are ∙ ap collections_in (same_choices a.choices b.choices both) ∙ sym b.collections_are
+  pub same_collections : cs ≡ ds
+  same_collections =
+      let both : map word_of a.choices ≡ map word_of b.choices = Prim.cc (a.words_are, b.words_are) in
+      a.collections_are ∙ ap collections_in (same_choices a.choices b.choices both) ∙ sym b.collections_are
 
 -- ---- the options, one behind another
 
@@ -201,6 +196,6 @@ module _ {A : Type 0} (f : A → List ℕ) (options : List A) (i : ℕ) (option 
       subst (λ (ws : List (List ℕ)). HasChosen ws new) (sym (taken_more f options i option within here))
       (one_chosen (map f (take i options)) (f option) old new h (chosen.0, sym is ∙ chosen.1, chosen.2, chosen.3))
 
-  pub option_refused : (fault : WordFault) → (fault ≡ Usage → IsNoChoice word old) → IsWordFault (codes "run" ∷ map f options) fault
-  option_refused fault none =
-      no_options (map f (take i options)) (f option) (map f (drop (i + 1) options)) (map f options) old fault (whole_at f options i option within here) h (λ usage choice e. none usage choice (is ∙ e))
+  pub option_refused : (fault : WordFault) → (fault ≡ Usage → IsNoChoice word old) → (first : List ℕ) → IsWordFault (first ∷ map f options) fault
+  option_refused fault none first =
+      no_options first (map f (take i options)) (f option) (map f (drop (i + 1) options)) (map f options) old fault (whole_at f options i option within here) h (λ usage choice e. none usage choice (is ∙ e))

@@ -37,7 +37,7 @@ use Rattle.dapi.specs.Note.{status_of, open_status}
 use Rattle.dapi.specs.Ended.{EndsRunOn, EndsMixOn, Unopened, EndsAs}
 use Rattle.dapi.specs.Top.{Runs, Mixes}
 use Rattle.dapi.specs.Complete.{AreOfForm, IsUnhindered, RunsUndisturbed, MixesUndisturbed}
-use Rattle.dapi.proofs.Choosing.{same_command, same_collections}
+use Rattle.dapi.proofs.Choosing.{same_asking, same_collections}
 
 -- laws of the crates below
 abbrev pub LinesAreOne : Type 0
@@ -233,7 +233,7 @@ module _ {K : Type 0} (tables : K → Option Tables) (failed : K → ℕ) (words
     pub all_complete : (keyspace seed : List ℕ) (collections : List (List ℕ)) (store : Stored K) (times : Option (List ℤ)) (how : RunHow) (status : ℕ) (Untouched : Type 0) (command : Cmd) → AsksFor words command keyspace collections → status ≡ status_of how
         → EndsAs tables failed keyspace seed store times kept from to before after how Untouched command → (status ≡ 0) ⊎ (status ≡ 9)
     all_complete keyspace seed collections store times how status Untouched command asked is e =
-        complete_as keyspace seed store times how status Untouched command is (subst (λ (c : Cmd). AreOfForm c u.lines) (same_command words u.command command u.keyspace keyspace u.collections collections u.asked asked) u.right) e
+        complete_as keyspace seed store times how status Untouched command is (subst (λ (c : Cmd). AreOfForm c u.lines) (same_asking words u.command command u.keyspace keyspace u.collections collections u.asked asked) u.right) e
 
   -- where the store wasn't opened
   pub unopened_complete : IsUnhindered tables failed words given kept from to before after → (command : Cmd) (keyspace : List ℕ) (collections : List (List ℕ)) (status : ℕ) → AsksFor words command keyspace collections

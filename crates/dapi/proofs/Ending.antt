@@ -4,7 +4,7 @@ use Rattle.std.proofs.Math.Seq.{take-length}
 use Rattle.std.specs.Option.{option_map, ForSome}
 use Rattle.outside_io.specs.Causes.{Rose}
 use Rattle.outside_io.specs.Told.{Reading, Writing}
-use Rattle.col_keeper.specs.Tables.{Tables}
+use Rattle.col_keeper.specs.Tables.{Tables, AreApart}
 use Rattle.store_core.specs.State.{start_of, tables_of}
 use Rattle.store_core.specs.Journal.{replay}
 use Rattle.cmd_tasks.specs.declared.trace.Trace.{Trace}
@@ -170,7 +170,7 @@ made_all count collections (Some t) =
 module _ {K : Type 0} (tables : K → Option Tables) (failed : K → ℕ) (words : List (List ℕ)) (given kept : K) (keyspace seed : List ℕ) (collections : List (List ℕ)) (store : Stored K) (times : Option (List ℤ))
     (begins : (store.journal ≡ []) × (store.keeper ≡ store.base)) (made : tables store.base ≡ option_map (opened_with collections) (tables given))
     (start : store.start ≡ option_map (start_of (failed store.base)) (tables store.base)) (first : ForSome (tables given) (λ t. (store.first ≡ t.last + 1) × (would_live collections t ≤ 100)))
-    (grows : failed given ≤ failed store.base) (no_change_is_lost : (base : State) (history : List Entry) → IsJournal base history → LosesNoChange base history) where
+    (grows : failed given ≤ failed store.base) (no_change_is_lost : (base : State) (history : List Entry) → IsJournal base history → AreApart base.collections → LosesNoChange base history) where
   opens : (command : Cmd) → AsksFor words command keyspace collections → Opens tables failed words given kept command
   opens command asked = record {
     keyspace = keyspace;
@@ -185,7 +185,7 @@ module _ {K : Type 0} (tables : K → Option Tables) (failed : K → ℕ) (words
   }
 
   leaves : (history : List Entry) → IsLeft tables store kept history → Leaves tables failed words given kept store.start history
-  leaves history l = record { tables_are = l.tables_are; changes = λ base told. no_change_is_lost base history (l.legal base told) }
+  leaves history l = record { tables_are = l.tables_are; changes = λ base told. let legal = l.legal base told in no_change_is_lost base history legal.0 legal.1 }
 
   module _ (from to : Reading) (before after : Writing) (how : RunHow) where
     runs_so : AsksFor words Run keyspace collections → (Ended : (List (List ℕ) → List ℕ → Type 0) → Type 0) → ((P : List (List ℕ) → List ℕ → Type 0) → EndsRun P from to before after how → Ended P)
@@ -330,9 +330,9 @@ opened_few words command₁ command₂ keyspace₁ keyspace₂ cs ds tables stat
 -- ---- a command on a store, and what its keeper is then
 
 module _ {K : Type 0} (tables : K → Option Tables) (failed : K → ℕ) (keyspace seed : List ℕ) (old new : Stored K) (times later : Option (List ℤ)) (kept : K) (from to : Reading) (before after : Writing) (how : RunHow) (back : kept ≡ new.keeper)
-    (tables_are : tables kept ≡ option_map (λ s. tables_of (replay s new.journal)) new.start) (legal : ForSome new.start (λ b. IsJournal b new.journal)) (base : new.start ≡ old.start) where
+    (tables_are : tables kept ≡ option_map (λ s. tables_of (replay s new.journal)) new.start) (legal : ForSome new.start (λ b. IsJournal b new.journal × AreApart b.collections)) (base : new.start ≡ old.start) where
   left : IsLeft tables old kept new.journal
-  left = record { tables_are = tables_are ∙ ap (option_map (λ s. tables_of (replay s new.journal))) base; legal = subst (λ (o : Option State). ForSome o (λ b. IsJournal b new.journal)) base legal }
+  left = record { tables_are = tables_are ∙ ap (option_map (λ s. tables_of (replay s new.journal))) base; legal = subst (λ (o : Option State). ForSome o (λ b. IsJournal b new.journal × AreApart b.collections)) base legal }
 
   pub store_ran : (Kept : List Trace → Type 0) (None_kept Same_source Same_sink : Type 0)
       → ((traces : List Trace) × Kept traces × EndsRun (ServesLines keyspace seed old.start old.first (record { journal = old.journal; failed = failed old.keeper; traces = []; times = times }) (record { journal = new.journal; failed = failed new.keeper; traces = traces; times = later })) from to before after how)

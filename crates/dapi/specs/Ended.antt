@@ -2,7 +2,7 @@
 use Rattle.std.specs.Prelude.{◌≡◌, ◌⊎◌, ℕ, ℤ, List, [], Option}
 use Rattle.std.specs.Option.{option_map, ForSome}
 use Rattle.outside_io.specs.Told.{Reading, Writing}
-use Rattle.col_keeper.specs.Tables.{Tables}
+use Rattle.col_keeper.specs.Tables.{Tables, AreApart}
 use Rattle.store_core.specs.State.{tables_of}
 use Rattle.store_core.specs.Journal.{replay, IsJournal}
 use Rattle.store_core.specs.Store.{Stored}
@@ -16,10 +16,10 @@ use Rattle.api_serve.specs.declared.run.RunHow.TheVariants.{NoMemory}
 use Rattle.dapi.specs.declared.words.Cmd.{Cmd}
 use Rattle.dapi.specs.declared.words.Cmd.TheVariants.{Run, Mix}
 
--- the history is legal, and the keeper that is handed back has the tables that it leaves
+-- the history is legal from a base whose collections differ by name, and the keeper that is handed back has the tables that it leaves
 pub record IsLeft {K : Type 0} (tables : K → Option Tables) (store : Stored K) (kept : K) (history : List Entry) : Type 0 where
   pub tables_are : tables kept ≡ option_map (λ s. tables_of (replay s history)) store.start
-  pub legal : ForSome store.start (λ b. IsJournal b history)
+  pub legal : ForSome store.start (λ b. IsJournal b history × AreApart b.collections)
 
 module _ {K : Type 0} (tables : K → Option Tables) (failed : K → ℕ) (keyspace seed : List ℕ) (store : Stored K) (times : Option (List ℤ)) (kept : K) (from to : Reading) (before after : Writing) (how : RunHow) where
   -- a session was opened and served its lines, and the run ended so

@@ -1,9 +1,16 @@
--- The words of a command line: `run`, and options in any order.
+-- The words of a command line: a command, and options in any order.
 use Rattle.std.specs.Prelude.{◌≡◌, ℕ, ◌≤◌, IsTrue, List, [], ◌∷◌, ◌++◌, length, map, codes}
 use Rattle.std.specs.List.{AllByRecursion as Each}
 use Rattle.doc_paths.specs.Name.{is_collection_name}
+use Rattle.dapi.specs.declared.words.Cmd.{Cmd}
+use Rattle.dapi.specs.declared.words.Cmd.TheVariants.{Run, Mix}
 use Rattle.dapi.specs.declared.words.WordFault.{WordFault}
 use Rattle.dapi.specs.declared.words.WordFault.TheVariants.{Usage, NoMemory}
+
+-- the word of a command
+abbrev pub command_word : Cmd → List ℕ
+command_word Run = codes "run"
+command_word Mix = codes "mix"
 
 -- an option: it names the keyspace, or a collection
 pub data Choice : Type 0 where
@@ -34,23 +41,31 @@ abbrev pub keyspace_of : List (List ℕ) → List ℕ
 keyspace_of [] = codes "ks"
 keyspace_of (name ∷ names) = name
 
--- options that may stand behind `run`: each name is one by rule, the keyspace is named at most once, and collections at most 100 times
+-- options that may stand behind a command: each name is one by rule, the keyspace is named at most once, and collections at most 100 times
 pub record AreChoices (choices : List Choice) : Type 0 where
   pub named : Each (λ c. IsTrue (is_collection_name (name_in c))) choices
   pub once : length (keyspaces_in choices) ≤ 1
   pub few : length (collections_in choices) ≤ 100
 
--- the words are `run` and such options; they name this keyspace and these collections
-pub record RunsOn (words : List (List ℕ)) (keyspace : List ℕ) (collections : List (List ℕ)) : Type 0 where
+-- the words are the command's and such options; they name this keyspace and these collections
+pub record AsksFor (words : List (List ℕ)) (command : Cmd) (keyspace : List ℕ) (collections : List (List ℕ)) : Type 0 where
   pub choices : List Choice
-  pub words_are : words ≡ codes "run" ∷ map word_of choices
+  pub words_are : words ≡ command_word command ∷ map word_of choices
   pub allowed : AreChoices choices
   pub keyspace_is : keyspace ≡ keyspace_of (keyspaces_in choices)
   pub collections_are : collections ≡ collections_in choices
 
+-- the words ask for a run on this keyspace with these collections
+abbrev pub RunsOn : List (List ℕ) → List ℕ → List (List ℕ) → Type 0
+RunsOn words = AsksFor words Run
+
+-- the words ask for a mix
+abbrev pub MixesOn : List (List ℕ) → List ℕ → List (List ℕ) → Type 0
+MixesOn words = AsksFor words Mix
+
 -- the words are no command's
 abbrev pub IsUsage : List (List ℕ) → Type 0
-IsUsage words = (keyspace : List ℕ) (collections : List (List ℕ)) → RunsOn words keyspace collections → ⊥
+IsUsage words = (command : Cmd) (keyspace : List ℕ) (collections : List (List ℕ)) → AsksFor words command keyspace collections → ⊥
 
 -- why the words can't be used
 abbrev pub IsWordFault : List (List ℕ) → WordFault → Type 0

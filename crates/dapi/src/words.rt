@@ -1,7 +1,7 @@
 //! The words of a command line.
 ghost use Rattle.std.specs.Prelude.{◌≡◌, ◌++◌, ◌∷◌, ◌≤◌, ℕ, List, [], codes, map, string_bytes, MatchOption, IfOk, IfErr, OnOk, Err, IsTrue};
 ghost use Rattle.doc_paths.specs.Name.{is_collection_name};
-ghost use Rattle.dapi.specs.Words.{Choice, of_keyspace, of_collection, word_of, keyspace_of, RunsOn, IsUsage, IsWordFault};
+ghost use Rattle.dapi.specs.Words.{Choice, of_keyspace, of_collection, word_of, command_word, keyspace_of, AsksFor, IsWordFault};
 ghost use Rattle.dapi.specs.Chosen.{choice_of, kept_keyspace, HasChosen, Allows, Adds, Chooses, IsNoChoice};
 
 use doc_paths::{CollName, NameFault};
@@ -118,10 +118,10 @@ fn choose(alloc: Global, word: &str, choices: &mut Choices) -> Result<(), WordFa
     }
 }
 
-// The options behind the command.
+// The options behind the command: where they are none, they are none behind any word.
 fn choices_of(alloc: Global, options: &[String]) -> Result<Choices, WordFault>
     ensures ok { IfOk result (HasChosen (map string_bytes options.now)) }
-    ensures err { IfErr result (λ fault. IsWordFault (codes "run" ∷ map string_bytes options.now) fault) }
+    ensures err { IfErr result (λ fault. (word : List ℕ) → IsWordFault (word ∷ map string_bytes options.now) fault) }
 {
     let mut choices = Choices {
         keyspace: None,
@@ -150,7 +150,9 @@ fn keyspace_of(alloc: Global, named: Option<CollName>) -> Result<CollName, NoMem
 }
 
 // The command that a word names.
-fn command_of(word: &str) -> Option<Cmd> {
+fn command_of(word: &str) -> Option<Cmd>
+    ensures { MatchOption result ((command : Cmd) → word.now ≡ command_word command → ⊥) (λ command. word.now ≡ command_word command) }
+{
     match word {
         "run" => Some(Cmd::Run),
         "mix" => Some(Cmd::Mix),
@@ -160,7 +162,7 @@ fn command_of(word: &str) -> Option<Cmd> {
 
 // The job of these options.
 fn job_of(alloc: Global, command: Cmd, choices: Choices) -> Result<Job, NoMemory>
-    ensures { IfOk result (λ job. (job.keyspace ≡ keyspace_of (kept_keyspace choices.keyspace)) × (job.collections.items ≡ choices.collections.items)) }
+    ensures { IfOk result (λ job. (job.command ≡ command) × (job.keyspace ≡ keyspace_of (kept_keyspace choices.keyspace)) × (job.collections.items ≡ choices.collections.items)) }
 {
     let Choices {
         keyspace,
@@ -178,7 +180,7 @@ fn job_of(alloc: Global, command: Cmd, choices: Choices) -> Result<Job, NoMemory
 
 /// The job that the words after the program's name ask for.
 pub fn read(alloc: Global, words: &[String]) -> Result<Job, WordFault>
-    ensures ok { IfOk result (λ job. RunsOn (map string_bytes words.now) job.keyspace job.collections.items) }
+    ensures ok { IfOk result (λ job. AsksFor (map string_bytes words.now) job.command job.keyspace job.collections.items) }
     ensures err { IfErr result (IsWordFault (map string_bytes words.now)) }
 {
     let Some((word, options)) = words.split_first() else {
