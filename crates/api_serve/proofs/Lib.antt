@@ -12,3 +12,4 @@ pub mod Playing
 pub mod Turns
 pub mod Played
 pub mod Changes
+pub mod MixEnds

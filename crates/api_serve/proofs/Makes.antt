@@ -47,7 +47,7 @@ counted_append low high (Dropped by coll ∷ xs) ys p q = counted_append low hig
 counted_append low high (Changed by coll id change before tx ∷ xs) ys p q = counted_append low high xs ys p q
 counted_append low high (Failed by b a ∷ xs) ys p q = (p.0, p.1, counted_append low high xs ys p.2 q)
 
-opened_grows : (xs ys : List Entry) → opened_in xs ≤ opened_in (xs ++ ys)
+pub opened_grows : (xs ys : List Entry) → opened_in xs ≤ opened_in (xs ++ ys)
 opened_grows [] ys = omega arith
 opened_grows (Opened k ∷ xs) ys = omega (arith, opened_grows xs ys)
 opened_grows (Created by coll ∷ xs) ys = opened_grows xs ys

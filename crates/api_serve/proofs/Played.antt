@@ -31,7 +31,7 @@ no_exchange = []
 -- ---- openings
 
 pub opened_append : (xs ys : List Entry) → opened_in (xs ++ ys) ≡ opened_in xs + opened_in ys
-opened_append [] ys = refl
+opened_append [] ys = omega arith
 opened_append (Opened k ∷ xs) ys = let h = opened_append xs ys in omega (arith, h)
 opened_append (Created by coll ∷ xs) ys = opened_append xs ys
 opened_append (Dropped by coll ∷ xs) ys = opened_append xs ys
@@ -39,7 +39,7 @@ opened_append (Changed by coll id change before tx ∷ xs) ys = opened_append xs
 opened_append (Failed by before count ∷ xs) ys = opened_append xs ys
 
 pub writes_append : (xs ys : List Entry) → writes_in (xs ++ ys) ≡ writes_in xs + writes_in ys
-writes_append [] ys = refl
+writes_append [] ys = omega arith
 writes_append (Opened k ∷ xs) ys = writes_append xs ys
 writes_append (Created by coll ∷ xs) ys = writes_append xs ys
 writes_append (Dropped by coll ∷ xs) ys = writes_append xs ys
@@ -182,14 +182,14 @@ whole start keyspace seed base before H₁ H' more high times' requests turns he
     let r = plays.steps seed base first requests (map waiting requests) standing in
     let done = all_done keyspace seed base first requests held' r.now r.standing.are_held plays.idle in
     let e = are_ended keyspace seed base first requests held' r.now r.standing.are_held done in
-    let long : length (map waiting requests) ≡ length requests = length-map waiting requests in record {
+    let long : length (map waiting requests) ≡ length requests = length-map requests waiting in record {
       first = first;
       first_is = refl;
       players = r.now;
       played = subst (λ J. IsPlayed keyspace first turns (record { scene = record before { journal = J }; players = map waiting requests }) (record { scene = scene_of H' high times'; players = r.now })) opened
           (record { counts = plays.counts; each = plays.each ∙ same ∙ sym long; steps = r.steps; done = done });
       more = more;
-      added = longer ∙ ap (λ J. J ++ more) opened ∙ append_assoc before.journal (openings first (length requests)) more;
+      added = longer ∙ ap (λ J. J ++ more) opened;
       exchanges = map (λ (p : Player). p.served) r.now;
       served = refl;
       sessions = λ b told. subst (AreSessions b H' first) (all_ended r.now done) (r.standing.sessions b told);

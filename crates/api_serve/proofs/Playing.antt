@@ -237,8 +237,12 @@ module _ (laws : Laws) where
 -- ---- many steps
 
 works_append : (keyspace : List ℕ) (k n m : ℕ) (p q r : Player) (s t u : Scene) → WorksOn keyspace k n p q s t → WorksOn keyspace k m q r t u → WorksOn keyspace k (n + m) p r s u
-works_append keyspace k zero m p q r s t u w v = subst (λ z. WorksOn keyspace k m z r s u) w.0 (subst (λ z. WorksOn keyspace k m q r z u) w.1 v)
-works_append keyspace k (suc n) m p q r s t u w v = (w.0, w.1, w.2, works_append keyspace k n m w.0 q r w.1 t u w.3 v)
+works_append keyspace k zero m p q r s t u w v =
+    let none : m ≡ 0 + m = omega arith in
+    subst (λ n. WorksOn keyspace k n p r s u) none (subst (λ z. WorksOn keyspace k m z r s u) w.0 (subst (λ z. WorksOn keyspace k m q r z u) w.1 v))
+works_append keyspace k (suc n) m p q r s t u w v =
+    let one : suc (n + m) ≡ suc n + m = omega arith in
+    subst (λ n. WorksOn keyspace k n p r s u) one (w.0, w.1, w.2, works_append keyspace k n m w.0 q r w.1 t u w.3 v)
 
 pub none_on : (start : Option State) (keyspace : List ℕ) (held : Held) (s : Scene) → StepsOn start keyspace 0 held held s s
 none_on start keyspace held s requests stream p is = record { now = p; works = (refl, refl); is_held = is; session = λ base told was. was }

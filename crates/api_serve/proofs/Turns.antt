@@ -305,8 +305,9 @@ module _ (laws : Laws) {K : Type 0} (failed : K → ℕ) (keyspace : List ℕ) (
       → ((count : ℕ) × StepsOn s.start keyspace count h g (scene_of s.journal (failed s.keeper) times) (scene_of t.journal (failed t.keeper) times')) → IsIdle g → AreRunOut failed keyspace s₀ times₀ held₀ turns (i + 1) t times' (set held i g)
   run_out_more turns i s t times times' held h g so at same fit grown base lawful steps idle =
       let now = turned_on (turns ++ one_by_one 0 so.counts) s t times times' held i h g so.turned at same fit grown base lawful steps.0 steps.1 in
+      let place : i ≡ 0 + length so.counts = (let count = so.count_is in omega (arith, count)) in
       let more : (turns ++ one_by_one 0 so.counts) ++ replicate steps.0 i ≡ turns ++ one_by_one 0 (so.counts ++ steps.0 ∷ []) =
-          append_assoc turns (one_by_one 0 so.counts) (replicate steps.0 i) ∙ ap (λ l. turns ++ l) (ap (λ n. one_by_one 0 so.counts ++ replicate steps.0 n) (sym so.count_is) ∙ sym (one_more 0 steps.0 so.counts)) in
+          append_assoc turns (one_by_one 0 so.counts) (replicate steps.0 i) ∙ ap (λ l. turns ++ l) (ap (λ n. one_by_one 0 so.counts ++ replicate steps.0 n) place ∙ sym (one_more 0 steps.0 so.counts)) in
       let next : suc i ≡ i + 1 = omega arith in record {
         counts = so.counts ++ steps.0 ∷ [];
         count_is = length-append so.counts (steps.0 ∷ []) ∙ ap (λ n. n + 1) so.count_is;

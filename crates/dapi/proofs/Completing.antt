@@ -178,7 +178,7 @@ uncontested_one alone law keyspace base history first (r ∷ q ∷ requests) all
 
 -- no call of the keeper failed under a request of any session
 unfailed_each : StillHasNoFault → RefusalsAreOwn → (keyspace : List ℕ) (base : State) (history : List Entry) (low high : ℕ) (more : List Entry) → AreCounted low high more → (Rose low high → ⊥)
-    → (k : ℕ) (earlier : List Entry) (requests : List (List Request)) (all : List (List Exchange)) → history ≡ earlier ++ openings k (length requests) ++ more → AllAsked keyspace requests all → AreSessions base history k all → Each (Each IsUnfailed) all
+    → (k : ℕ) (earlier : List Entry) (requests : List (List Request)) (all : List (List Exchange)) → history ≡ earlier ++ (openings k (length requests) ++ more) → AllAsked keyspace requests all → AreSessions base history k all → Each (Each IsUnfailed) all
 unfailed_each still law keyspace base history low high more counted quiet k earlier requests [] is asked sessions = tt
 unfailed_each still law keyspace base history low high more counted quiet k earlier [] (xs ∷ all) is asked sessions = absurd asked
 unfailed_each still law keyspace base history low high more counted quiet k earlier (r ∷ requests) (xs ∷ all) is asked sessions = (

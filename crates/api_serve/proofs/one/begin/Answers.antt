@@ -13,5 +13,6 @@ returns-in-Err-Refused c = let u = c.refused.ensures in let error : ErrorItem = 
   ids_are = refl;
   left_is = refl;
   trace = u.trace;
+  cut = tt;
   answers = λ base history session. (u.trace, u.reply);
 }
