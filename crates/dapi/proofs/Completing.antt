@@ -26,7 +26,7 @@ use Rattle.api_serve.specs.Request.{IsRightLine, AreRightLines}
 use Rattle.api_serve.specs.Run.{ServesInput, ServesWholeLines, ServesBefore, HasRead}
 use Rattle.api_serve.specs.Script.{AreScript, IsWrongAt}
 use Rattle.api_serve.specs.Play.{Player, Standing, GetsStep, GetSteps}
-use Rattle.api_serve.specs.Mix.{openings, waiting, AllAsked, PlaysAll, ReadsWrong, EndsMix}
+use Rattle.api_serve.specs.Mix.{openings, waiting, AllAsked, IsUnplayed, PlaysAll, ReadsWrong, EndsMix}
 use Rattle.api_serve.specs.Ends.{IsWriteFault, EndsRun}
 use Rattle.api_serve.specs.declared.run.RunHow.{RunHow}
 use Rattle.api_serve.specs.declared.run.RunHow.TheVariants.{Done, ReadFault, WriteFault, TooLong, WrongLine, NoMemory}
@@ -228,7 +228,8 @@ module _ {K : Type 0} (tables : K → Option Tables) (failed : K → ℕ) (words
         → EndsAs tables failed keyspace seed store times kept from to before after how Untouched command → (status ≡ 0) ⊎ (status ≡ 9)
     complete_as keyspace seed store times how status Untouched Run is right (inl e) = run_ends right _ how status is e.ended
     complete_as keyspace seed store times how status Untouched Run is right (inr none) = inr (is ∙ ap status_of none.none)
-    complete_as keyspace seed store times how status Untouched Mix is right e = mix_ends right.0 right.1 right.2 _ _ how status is e.ended
+    complete_as keyspace seed store times how status Untouched Mix is right e = mix_ends right.0 right.1 right.2 _
+        (IsUnplayed (record { journal = store.journal; failed = failed store.keeper; times = times }) (record { journal = e.history; failed = failed kept; times = e.later }) e.traces before after) how status is e.ended
 
     pub all_complete : (keyspace seed : List ℕ) (collections : List (List ℕ)) (store : Stored K) (times : Option (List ℤ)) (how : RunHow) (status : ℕ) (Untouched : Type 0) (command : Cmd) → AsksFor words command keyspace collections → status ≡ status_of how
         → EndsAs tables failed keyspace seed store times kept from to before after how Untouched command → (status ≡ 0) ⊎ (status ≡ 9)
@@ -269,27 +270,22 @@ module _ {K : Type 0} (tables : K → Option Tables) (failed : K → ℕ) (words
   -- ---- the sessions of a mix
 
   module _ (alone : AloneLosesNothing) (still : StillHasNoFault) (refusals : RefusalsAreOwn) (seed : List ℕ) (times : Option (List ℤ)) (mix : Mixes tables failed words given kept seed times before after (λ Played Unplayed. PlaysAll Played from to before after)) where
-    played = mix.ended.played
-
-    all : List (List Exchange)
-    all = played.exchanges
-
-    grew : Grew played.first (record { scene = record { journal = openings played.first (length mix.ended.requests); failed = mix.opened.count; times = times }; players = map waiting mix.ended.requests })
-        (record { scene = record { journal = mix.history; failed = failed kept; times = mix.later }; players = played.players })
-    grew = steps_grow mix.opened.keyspace played.first _ _ _ played.played.steps
+    grew : Grew mix.ended.played.first (record { scene = record { journal = openings mix.ended.played.first (length mix.ended.requests); failed = mix.opened.count; times = times }; players = map waiting mix.ended.requests })
+        (record { scene = record { journal = mix.history; failed = failed kept; times = mix.later }; players = mix.ended.played.players })
+    grew = steps_grow mix.opened.keyspace mix.ended.played.first _ _ _ mix.ended.played.played.steps
 
     -- the history is the openings, and what the steps added
-    more_is : grew.more ≡ played.more
-    more_is = append_cancel_left (openings played.first (length mix.ended.requests)) grew.more played.more (sym grew.longer ∙ played.added)
+    more_is : grew.more ≡ mix.ended.played.more
+    more_is = append_cancel_left (openings mix.ended.played.first (length mix.ended.requests)) grew.more mix.ended.played.more (sym grew.longer ∙ mix.ended.played.added)
 
-    counted : AreCounted mix.opened.count (failed kept) played.more
+    counted : AreCounted mix.opened.count (failed kept) mix.ended.played.more
     counted = subst (AreCounted mix.opened.count (failed kept)) more_is grew.counted
 
     pub mix_undisturbed : MixesUndisturbed tables failed words given kept from to before after seed times
     mix_undisturbed = record {
       mix = mix;
-      uncontested = λ single base told. uncontested_one alone refusals mix.opened.keyspace base mix.history played.first mix.ended.requests all played.more single played.added
-          (subst (AllBy played.first) more_is (grew.alone (length-map waiting mix.ended.requests ∙ single))) played.asked (played.sessions base told);
-      unfailed = λ quiet base told. unfailed_each still refusals mix.opened.keyspace base mix.history mix.opened.count (failed kept) played.more counted (λ rose. quiet (Rose-earlier (failed given) mix.opened.count (failed kept) mix.opened.counts rose))
-          played.first [] mix.ended.requests all played.added played.asked (played.sessions base told);
+      uncontested = λ single base told. uncontested_one alone refusals mix.opened.keyspace base mix.history mix.ended.played.first mix.ended.requests mix.ended.played.exchanges mix.ended.played.more single mix.ended.played.added
+          (subst (AllBy mix.ended.played.first) more_is (grew.alone (length-map mix.ended.requests waiting ∙ single))) mix.ended.played.asked (mix.ended.played.sessions base told);
+      unfailed = λ quiet base told. unfailed_each still refusals mix.opened.keyspace base mix.history mix.opened.count (failed kept) mix.ended.played.more counted (λ rose. quiet (Rose-earlier (failed given) mix.opened.count (failed kept) mix.opened.counts rose))
+          mix.ended.played.first [] mix.ended.requests mix.ended.played.exchanges mix.ended.played.added mix.ended.played.asked (mix.ended.played.sessions base told);
     }

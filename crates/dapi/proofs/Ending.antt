@@ -104,7 +104,7 @@ module _ (P : List (List Request) → List ℕ → List ℕ → Type 0) (U : ℕ
   mix_done NoMemory e h = absurd (Prim.cc e)
 
   pub mix_unread : (how : RunHow) → status_of how ≡ 2 → EndsMix P U from to before after how → ((count : ℕ) × (count < 2 ^ 40) × HasRead from to count) × U 0
-  mix_unread (ReadFault b a) e h = h.1
+  mix_unread (ReadFault b a) e h = (h.1, h.2)
   mix_unread Done e h = absurd (Prim.cc e)
   mix_unread (WriteFault b a nothing) e h = absurd (Prim.cc e)
   mix_unread TooLong e h = absurd (Prim.cc e)
@@ -171,8 +171,8 @@ module _ {K : Type 0} (tables : K → Option Tables) (failed : K → ℕ) (words
     (begins : (store.journal ≡ []) × (store.keeper ≡ store.base)) (made : tables store.base ≡ option_map (opened_with collections) (tables given))
     (start : store.start ≡ option_map (start_of (failed store.base)) (tables store.base)) (first : ForSome (tables given) (λ t. (store.first ≡ t.last + 1) × (would_live collections t ≤ 100)))
     (grows : failed given ≤ failed store.base) (no_change_is_lost : (base : State) (history : List Entry) → IsJournal base history → AreApart base.collections → LosesNoChange base history) where
-  opens : (command : Cmd) → AsksFor words command keyspace collections → Opens tables failed words given kept command
-  opens command asked = record {
+  abbrev opened_for : (command : Cmd) → AsksFor words command keyspace collections → Opens tables failed words given kept command
+  opened_for command asked = record {
     keyspace = keyspace;
     collections = collections;
     asked = asked;
@@ -191,7 +191,7 @@ module _ {K : Type 0} (tables : K → Option Tables) (failed : K → ℕ) (words
     runs_so : AsksFor words Run keyspace collections → (Ended : (List (List ℕ) → List ℕ → Type 0) → Type 0) → ((P : List (List ℕ) → List ℕ → Type 0) → EndsRun P from to before after how → Ended P)
         → EndsRunOn tables failed keyspace seed store times kept from to before after how → Runs tables failed words given kept seed times Ended
     runs_so asked Ended so e = record {
-      opened = opens Run asked;
+      opened = opened_for Run asked;
       history = e.history;
       traces = e.traces;
       later = e.later;
@@ -205,7 +205,7 @@ module _ {K : Type 0} (tables : K → Option Tables) (failed : K → ℕ) (words
         → ((P : List (List Request) → List ℕ → List ℕ → Type 0) (U : ℕ → Type 0) → EndsMix P U from to before after how → Ended P U)
         → EndsMixOn tables failed keyspace seed store times kept from to before after how → Mixes tables failed words given kept seed times before after Ended
     mixes_so asked Ended so e = record {
-      opened = opens Mix asked;
+      opened = opened_for Mix asked;
       history = e.history;
       traces = e.traces;
       later = e.later;
