@@ -9,3 +9,6 @@ pub mod Whole
 pub mod Opened
 pub mod Contests
 pub mod Playing
+pub mod Written
+pub mod Input
+pub mod Replies

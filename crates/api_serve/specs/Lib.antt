@@ -14,5 +14,6 @@ pub mod Sent
 pub mod Script
 pub mod Play
 pub mod Mix
+pub mod Mixing
 pub mod Scripted
 pub mod Players
