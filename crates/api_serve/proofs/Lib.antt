@@ -12,3 +12,5 @@ pub mod Playing
 pub mod Written
 pub mod Input
 pub mod Replies
+pub mod Turns
+pub mod Played

@@ -103,11 +103,11 @@ told_moments : (told later : Option (List ℤ)) (xs ys : List Exchange) → ForS
     → ForSome told (λ times. AreMoments times (xs ++ ys))
 told_moments told later xs ys p is q times e = moments_append times xs ys (p times e) (q (times_behind xs times) (is ∙ ap (option_map (times_behind xs)) e))
 
-drawn_append : (stream : Stream) (xs ys : List Exchange) → AreDrawn stream xs → AreDrawn (stream_behind xs stream) ys → AreDrawn stream (xs ++ ys)
+pub drawn_append : (stream : Stream) (xs ys : List Exchange) → AreDrawn stream xs → AreDrawn (stream_behind xs stream) ys → AreDrawn stream (xs ++ ys)
 drawn_append stream [] ys p q = q
 drawn_append stream (x ∷ xs) ys p q = (p.0, drawn_append (after_drawing (draws_of x.asking) stream) xs ys p.1 q)
 
-left_append : (stream : Stream) (xs ys : List Exchange) → stream_behind (xs ++ ys) stream ≡ stream_behind ys (stream_behind xs stream)
+pub left_append : (stream : Stream) (xs ys : List Exchange) → stream_behind (xs ++ ys) stream ≡ stream_behind ys (stream_behind xs stream)
 left_append stream [] ys = refl
 left_append stream (x ∷ xs) ys = left_append (after_drawing (draws_of x.asking) stream) xs ys
 

@@ -17,3 +17,5 @@ pub mod Mix
 pub mod Mixing
 pub mod Scripted
 pub mod Players
+pub mod Laws
+pub mod Mixed

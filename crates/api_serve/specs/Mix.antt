@@ -75,20 +75,23 @@ pub record Plays (keyspace seed : List ℕ) (start : Option State) (base : ℕ) 
   pub drawn : AllDrawn seed base first exchanges
   pub text : output ≡ replies_from 0 exchanges ++ writes_line (writes_in more)
 
--- so many sessions were opened, but no step was made, and nothing was written
-pub record IsUnplayed (before after : Scene) (traces : List (List Trace)) (out now : Writing) (count : ℕ) : Type 0 where
+-- so many sessions were opened behind the history, and nothing else was done
+pub record OpensAlone (before after : Scene) (count : ℕ) : Type 0 where
   pub journal : after.journal ≡ before.journal ++ openings (opened_in before.journal) count
   pub failed : after.failed ≡ before.failed
   pub times : after.times ≡ before.times
+
+-- of so many sessions none made a step, and nothing was written
+pub record IsUnplayed (before after : Scene) (traces : List (List Trace)) (out now : Writing) (count : ℕ) : Type 0 where
+  pub opens : OpensAlone before after count
   pub traces_are : traces ≡ []
   pub unwritten : Takes out [] now
 
--- How a mix ends, over what is said of the script that was played and of its output, and of one that opened so many sessions, but
--- made no step
-module _ (Played : List (List Request) → List ℕ → List ℕ → Type 0) (Unplayed : ℕ → Type 0) (from to : Reading) (before after : Writing) where
-  -- the whole input was read, of fewer bytes than 2^40, it is a script, which was played, and so many bytes of the output were
-  -- written, and nothing else
-  pub record PlaysInput (written : List ℕ → List ℕ) : Type 0 where
+-- How a mix ends, over what is said of the script that was played and of its output
+module _ (Played : List (List Request) → List ℕ → List ℕ → Type 0) (from to : Reading) (before after : Writing) where
+  -- the whole input was read, of fewer bytes than 2^40, it is a script, which was played, and this much of the output was written,
+  -- and nothing else
+  pub record PlaysInput (much : List ℕ → List ℕ) : Type 0 where
     pub input : List ℕ
     pub lines : List (List ℕ)
     pub requests : List (List Request)
@@ -100,29 +103,35 @@ module _ (Played : List (List Request) → List ℕ → List ℕ → Type 0) (Un
     pub has_lines : HasLines input lines
     pub script : AreScript lines requests turns
     pub played : Played requests turns output
-    pub taken : Takes before (written output) after
+    pub written : Takes before (much output) after
 
-  -- the whole input was read, and its line of this number is the first that isn't of its form
-  pub record ReadsWrong (number : ℕ) : Type 0 where
-    pub input : List ℕ
-    pub lines : List (List ℕ)
-    pub read : Reads from input to
-    pub size : length input < 2 ^ 40
-    pub ended : ForSome to.left (λ rest. rest ≡ [])
-    pub has_lines : HasLines input lines
-    pub wrong : IsWrongAt lines number
+  -- the whole output was written
+  abbrev pub PlaysAll : Type 0
+  PlaysAll = PlaysInput (λ output. output)
 
-  -- the script was played, and a front of the output was written, but not all of it
+  -- a front of it, but not all
   pub record PlaysCut : Type 0 where
     pub count : ℕ
-    pub plays : PlaysInput (take count)
-    pub cut : count < length plays.output
+    pub front : PlaysInput (take count)
+    pub cut : count < length front.output
 
-  -- a mix ends so, by what its source and its sink showed before it and show after it
+-- the whole input was read, and its line of this number is the first that isn't of its form
+pub record ReadsWrong (from to : Reading) (number : ℕ) : Type 0 where
+  pub input : List ℕ
+  pub lines : List (List ℕ)
+  pub read : Reads from input to
+  pub size : length input < 2 ^ 40
+  pub ended : ForSome to.left (λ rest. rest ≡ [])
+  pub has_lines : HasLines input lines
+  pub wrong : IsWrongAt lines number
+
+-- A mix ends so, by what its source and its sink showed before it and show after it; over what is said of the script that was
+-- played and of its output, and of a mix that opened so many sessions, but made no step
+module _ (Played : List (List Request) → List ℕ → List ℕ → Type 0) (Unplayed : ℕ → Type 0) (from to : Reading) (before after : Writing) where
   abbrev pub EndsMix : RunHow → Type 0
-  EndsMix Done = PlaysInput (λ output. output)
+  EndsMix Done = PlaysAll Played from to before after
   EndsMix (ReadFault fault_before fault_after) = IsReadFault from to fault_before fault_after × ((count : ℕ) × (count < 2 ^ 40) × HasRead from to count) × Unplayed 0
-  EndsMix (WriteFault fault_before fault_after nothing) = IsWriteFault before after fault_before fault_after nothing × PlaysCut
+  EndsMix (WriteFault fault_before fault_after nothing) = IsWriteFault before after fault_before fault_after nothing × PlaysCut Played from to before after
   EndsMix TooLong = HasRead from to (2 ^ 40) × Unplayed 0
-  EndsMix (WrongLine number) = ReadsWrong number × Unplayed 0
-  EndsMix NoMemory = ((count : ℕ) × Unplayed count) ⊎ ((count : ℕ) × PlaysInput (take count))
+  EndsMix (WrongLine number) = ReadsWrong from to number × Unplayed 0
+  EndsMix NoMemory = ((count : ℕ) × Unplayed count) ⊎ ((count : ℕ) × PlaysInput Played from to before after (take count))

@@ -18,6 +18,7 @@ use Rattle.reply_env.specs.declared.reply.Reply.TheVariants.{NoMemory}
 use Rattle.api_serve.specs.Answered.{IsAskedBy}
 use Rattle.api_serve.specs.Session.{Service, Stage}
 use Rattle.api_serve.specs.Run.{Serves}
+use Rattle.api_serve.specs.Play.{IsCut}
 use Rattle.store_core.specs.declared.entry.Entry.{Entry}
 use Rattle.api_serve.specs.declared.one.Answered.{Answered}
 use Rattle.api_serve.specs.declared.one.Begun.{Begun}
@@ -43,8 +44,8 @@ pub record IsRefusedAs (moment : ℤ) (error : ErrorItem) (answered : Answered) 
   pub trace : answered.trace.items.items ≡ []
   pub reply : IsRefusal error answered.reply ⊎ (answered.reply ≡ NoMemory 0)
 
--- A request at its beginning: its task, of which no step is made, with the ids that were drawn for it from the stream; and this is
--- left of the stream
+-- A request at its beginning: its task, of which no step is made, with the ids that were drawn for it from the stream, of which
+-- this is left
 pub record MakesTask (keyspace : List ℕ) (session : ℕ) (moment : ℤ) (request : Request) (stream left : Stream) (task : Task) : Type 0 where
   pub asked : IsAskedBy keyspace request (asks_for task.coll (command_tree task.command.value))
   pub session_is : task.session ≡ session
@@ -62,6 +63,7 @@ pub record AnswersAtOnce (keyspace : List ℕ) (moment : ℤ) (request : Request
   pub ids_are : drawn (draws_of asking) stream ≡ []
   pub left_is : left ≡ after_drawing (draws_of asking) stream
   pub trace : answered.trace.items.items ≡ []
+  pub cut : IsCut asking answered.reply
   pub answers : (base : State) (history : List Entry) (session : ℕ) → IsAnswered base history session (exchange_of asking [] answered)
 
 abbrev pub Begins : List ℕ → ℕ → ℤ → Request → Stream → Stream → Begun → Type 0

@@ -1,5 +1,5 @@
 -- A play: the sessions of a script take steps in turn, on one history.
-use Rattle.std.specs.Prelude.{◌≡◌, ◌⊎◌, ℕ, ℤ, ◌+◌, ⊤, List, [], ◌∷◌, ◌++◌, length, Option, None, Some, option_map, slice_get, slice_set, replicate}
+use Rattle.std.specs.Prelude.{◌≡◌, ◌⊎◌, ℕ, ℤ, ◌+◌, ◌≤◌, ⊤, List, [], ◌∷◌, ◌++◌, length, Option, None, Some, option_map, slice_get, slice_set, replicate}
 use Rattle.std.specs.Option.{ForSome}
 use Rattle.std.specs.List.{AllByRecursion as Each}
 use Rattle.outside_io.specs.Times.{next_time, times_after}
@@ -71,6 +71,7 @@ pub record Works (keyspace : List ℕ) (k : ℕ) (p p' : Player) (s s' : Scene) 
   pub taken : GoesOnWith from p p' s s' ⊎ Begins keyspace from p p' s s'
   pub later : IsLater from to
   pub adds : Adds k s.failed s'.failed s.journal s'.journal from.trace to.trace
+  pub faults : s.failed ≤ s'.failed
   pub item : AddsItem from.trace to.trace ⊎ ((p'.present ≡ None) × IsCut to.asking to.reply)
   pub then : ((p'.present ≡ Some to) × (p'.served ≡ p.served)) ⊎ ((p'.present ≡ None) × (p'.served ≡ p.served ++ to ∷ []))
 

@@ -10,7 +10,7 @@ use Rattle.store_core.specs.State.{State}
 use Rattle.store_core.specs.Counts.{opened_in}
 use Rattle.store_core.specs.declared.entry.Entry.{Entry}
 use Rattle.cmd_tasks.specs.Ids.{begins, stream_of_ids}
-use Rattle.cmd_tasks.specs.Moves.{accepted_by}
+use Rattle.cmd_tasks.specs.Moves.{accepted_by, left}
 use Rattle.cmd_tasks.specs.Session.{Exchange, IsSession, AreSessions, IsAnswered}
 use Rattle.cmd_tasks.specs.Stands.{StandsOn, IsSame, Adds, AddsItem, exchange}
 use Rattle.cmd_tasks.specs.declared.task.Task.{Task}
@@ -29,6 +29,11 @@ scene_of journal failed times = record { journal = journal; failed = failed; tim
 abbrev pub under_way : Option Task → ℕ
 under_way None = 0
 under_way (Some task) = 1
+
+-- how many steps the task under way may take at most, and one for itself
+abbrev pub to_come : Option Task → ℕ
+to_come None = 0
+to_come (Some task) = suc (left task.state)
 
 -- how many requests aren't served yet
 abbrev pub unserved_by : Held → ℕ
@@ -62,7 +67,7 @@ pub record StepsTask (start : Option State) (H H' : List Entry) (low high : ℕ)
   pub same : IsSame task later
   pub adds : Adds task.session low high H H' task.trace.items.items later.trace.items.items
   pub rest : (held'.session ≡ held.session) × (held'.ids ≡ held.ids) × (held'.left ≡ held.left)
-  pub then : ((held'.task ≡ Some later) × StandsOn start H' later × AddsItem task.trace.items.items later.trace.items.items
+  pub then : ((held'.task ≡ Some later) × StandsOn start H' later × (left later.state < left task.state) × AddsItem task.trace.items.items later.trace.items.items
       × (held'.replies ≡ held.replies) × (held'.traces ≡ held.traces))
       ⊎ ((reply : Reply) × (held'.task ≡ None) × ForSome start (λ base. IsAnswered base H' task.session (exchange later reply))
       × (AddsItem task.trace.items.items later.trace.items.items ⊎ (reply ≡ NoMemory (accepted_by task.state)))
@@ -88,6 +93,23 @@ StepsOn start keyspace count held held' s s' = (requests : List Request) (stream
 -- one step, where anything is left
 abbrev pub StepsOnce : Option State → List ℕ → Held → Held → Scene → Scene → Type 0
 StepsOnce start keyspace held held' s s' = (IsIdle held × (held' ≡ held) × (s' ≡ s)) ⊎ StepsOn start keyspace 1 held held' s s'
+
+-- a session that was just opened, the k-th of the store, and will ask these requests
+pub record IsNew (seed : List ℕ) (base k : ℕ) (requests : List Request) (held : Held) : Type 0 where
+  pub session : held.session ≡ k
+  pub ids : stream_of_ids held.ids ≡ begins seed base k
+  pub left : held.left.items ≡ requests
+  pub task : held.task ≡ None
+  pub replies : held.replies.items ≡ []
+  pub traces : held.traces.items ≡ []
+  pub room : length requests ≤ vec_capacity held.replies
+  pub room_for_traces : length requests ≤ vec_capacity held.traces
+
+-- the same of all, from the k-th on
+abbrev pub AreNew : List ℕ → ℕ → ℕ → List (List Request) → List Held → Type 0
+AreNew seed base k [] [] = ⊤
+AreNew seed base k (requests ∷ all) (held ∷ others) = IsNew seed base k requests held × AreNew seed base (k + 1) all others
+AreNew seed base k all others = ⊥
 
 -- the numbers of the sessions are these, one after the other
 abbrev pub AreNumbered : ℕ → List Held → Type 0

@@ -1,10 +1,14 @@
 //! A script that is read whole, and then played.
-ghost use Rattle.std.specs.Prelude.{◌≡◌, ℕ, ◌^◌, ◌<◌, ◌≤◌, [], ◌++◌, length, map, decimal, IfOk, IfErr, OnOk};
+ghost use Rattle.std.specs.Prelude.{◌≡◌, ◌<◌, ◌≤◌, ◌^◌, ◌++◌, ℕ, [], IfOk, IfErr, OnOk, OnErr, length, map, decimal, vec_capacity};
 ghost use Rattle.std.specs.Option.{ForSome};
+ghost use Rattle.std.specs.List.{AllByRecursion as Each};
 ghost use Rattle.outside_io.specs.Told.{Takes, CountsGrow};
+ghost use Rattle.store_core.specs.Store.{IsLawful, SameBase};
 ghost use Rattle.api_serve.specs.Run.{Reads, HasRead};
-ghost use Rattle.api_serve.specs.Mix.{writes_line};
+ghost use Rattle.api_serve.specs.Mix.{EndsMix, Plays, IsUnplayed, OpensAlone, writes_line};
 ghost use Rattle.api_serve.specs.Mixing.{answer_line, answers_at, output_of, IsReadStop, IsWriteStop, WritesBut};
+ghost use Rattle.api_serve.specs.Mixed.{ReadsScript, IsScriptStop, PlaysScript, asked_in};
+ghost use Rattle.api_serve.specs.Players.{scene_of};
 
 use crate::play::{open_players, play};
 use crate::player::Player;
@@ -168,7 +172,9 @@ fn write_all_replies<W: Sink>(
 }
 
 // Nothing is served.
-fn unserved(alloc: Global, how: RunHow) -> RunEnd {
+fn unserved(alloc: Global, how: RunHow) -> RunEnd
+    ensures { (result.how ≡ how) × (result.traces.items ≡ []) }
+{
     RunEnd {
         how,
         traces: Vec::new(alloc),
@@ -183,7 +189,9 @@ struct Played {
 }
 
 // Room for what so many sessions are answered.
-fn room_for(alloc: Global, count: usize) -> Result<Played, NoMemory> {
+fn room_for(alloc: Global, count: usize) -> Result<Played, NoMemory>
+    ensures { IfOk result (λ room. (room.replies.items ≡ []) × (room.traces.items ≡ []) × (count ≤ vec_capacity room.replies) × (count ≤ vec_capacity room.traces)) }
+{
     let mut replies = Vec::new(alloc);
     let mut traces = Vec::new(alloc);
     if replies.reserve(count).is_err() || traces.reserve(count).is_err() {
@@ -193,7 +201,12 @@ fn room_for(alloc: Global, count: usize) -> Result<Played, NoMemory> {
 }
 
 // What the players were answered.
-fn answers_of(room: Played, players: Vec<Player>) -> Played {
+fn answers_of(room: Played, players: Vec<Player>) -> Played
+    requires empty { (room.replies.items ≡ []) × (room.traces.items ≡ []) }
+    requires room { (length players.items ≤ vec_capacity room.replies) × (length players.items ≤ vec_capacity room.traces) }
+    ensures replies { result.replies.items ≡ map (λ p. p.replies) players.items }
+    ensures traces { result.traces.items ≡ map (λ p. p.traces) players.items }
+{
     let mut played = room;
     'players: for player in players {
         let (replies, traces) = player.into_served();
@@ -211,7 +224,17 @@ fn play_script<K: Keeper, C: Clock>(
     clock: &mut C,
     seed: &[u8; 28],
     script: Script,
-) -> Result<Played, NoMemory> {
+) -> Result<Played, NoMemory>
+    requires within { Each (λ k. k < length script.requests.items) script.turns.items }
+    ensures played { IfOk result (PlaysScript keyspace.now seed.now store.old.start store.old.first
+        (scene_of store.old.journal (K.failed store.old.keeper) (C.times clock.old)) (scene_of store.new.journal (K.failed store.new.keeper) (C.times clock.new))
+        (asked_in script) script.turns.items) }
+    ensures unplayed { OnErr result ((count : ℕ) × OpensAlone
+        (scene_of store.old.journal (K.failed store.old.keeper) (C.times clock.old)) (scene_of store.new.journal (K.failed store.new.keeper) (C.times clock.new)) count) }
+    ensures faults { K.failed store.old.keeper ≤ K.failed store.new.keeper }
+    ensures base { SameBase store.old store.new }
+    ensures lawful { IsLawful store.new }
+{
     let Script { requests, turns } = script;
     let room = room_for(alloc, requests.len())?;
     let mut players = open_players(alloc, store, seed, requests)?;
@@ -227,7 +250,11 @@ fn play_script<K: Keeper, C: Clock>(
 }
 
 // Reads the script of a source.
-fn read_script<S: Source>(alloc: Global, source: &mut S) -> Result<Script, RunHow> {
+fn read_script<S: Source>(alloc: Global, source: &mut S) -> Result<Script, RunHow>
+    ensures read { IfOk result (ReadsScript (S.reading source.old) (S.reading source.new)) }
+    ensures stopped { IfErr result (IsScriptStop (S.reading source.old) (S.reading source.new)) }
+    ensures bounded { (count : ℕ) × (count ≤ 2 ^ 40) × HasRead (S.reading source.old) (S.reading source.new) count }
+{
     let input = read_input(alloc, source)?;
     match script_of(alloc, input.as_slice()) {
         Ok(script) => Ok(script),
@@ -247,7 +274,20 @@ pub fn mix<S: Source, W: Sink, K: Keeper, C: Clock>(
     store: &mut Store<K>,
     clock: &mut C,
     seed: &[u8; 28],
-) -> RunEnd {
+) -> RunEnd
+    // What was read, played and written, by how the mix ended.
+    ensures ended { EndsMix (Plays keyspace.now seed.now store.old.start store.old.first
+        (scene_of store.old.journal (K.failed store.old.keeper) (C.times clock.old)) (scene_of store.new.journal (K.failed store.new.keeper) (C.times clock.new))
+        (map (λ list. list.items) result.traces.items))
+        (IsUnplayed (scene_of store.old.journal (K.failed store.old.keeper) (C.times clock.old)) (scene_of store.new.journal (K.failed store.new.keeper) (C.times clock.new))
+        (map (λ list. list.items) result.traces.items) (W.writing sink.old) (W.writing sink.new))
+        (S.reading source.old) (S.reading source.new) (W.writing sink.old) (W.writing sink.new) result.how }
+    ensures bounded { (count : ℕ) × (count ≤ 2 ^ 40) × HasRead (S.reading source.old) (S.reading source.new) count }
+    ensures faults { K.failed store.old.keeper ≤ K.failed store.new.keeper }
+    ensures base { SameBase store.old store.new }
+    ensures lawful { IsLawful store.new }
+{
+    store.journal_len();
     let script = match read_script(alloc, source) {
         Ok(script) => script,
         Err(how) => return unserved(alloc, how),

@@ -159,6 +159,8 @@ fn answer<K: Keeper>(
     ensures base { SameBase store.old store.new }
     ensures lawful { IsLawful store.new }
 {
+    store.journal_len();
+    a_request_begins();
     match begin(alloc, keyspace, session, moment, request, ids) {
         Begun::Task(task) => {
             let Served { reply, trace } = serve(alloc, store, task);

@@ -1,11 +1,12 @@
 //! A session of a mix, whose requests are served step by step.
-ghost use Rattle.std.specs.Prelude.{◌≡◌, ◌++◌, ◌∷◌, ◌<◌, ◌≤◌, [], None, Some, length, vec_capacity};
+ghost use Rattle.std.specs.Prelude.{◌≡◌, ◌++◌, ◌∷◌, ◌<◌, ◌≤◌, ℕ, ℤ, List, [], None, Some, Option, IfOk, drop, length, vec_capacity};
 ghost use Rattle.store_core.specs.Counts.{opened_in};
-ghost use Rattle.store_core.specs.Growth.{Grows};
 ghost use Rattle.store_core.specs.Store.{IsLawful, SameBase};
 ghost use Rattle.cmd_tasks.specs.Stands.{StandsOn};
-ghost use Rattle.api_serve.specs.Players.{StepsTask};
+ghost use Rattle.api_serve.specs.Grown.{Grown};
+ghost use Rattle.api_serve.specs.Players.{CanGoOn, IsIdle, StepsOn, StepsOnce, StepsTask, scene_of};
 
+use crate::laws::sessions_go_on;
 use crate::one::{Answered, Begun, begin};
 use cmd_tasks::{Ids, Next, Served, Task, Trace};
 use col_keeper::Keeper;
@@ -34,7 +35,10 @@ impl Player {
         session: u64,
         ids: Ids,
         requests: VecDeque<Request>,
-    ) -> Result<Player, NoMemory> {
+    ) -> Result<Player, NoMemory>
+        ensures held { IfOk result (λ p. (p.session ≡ session) × (p.ids ≡ ids) × (p.left ≡ requests) × (p.task ≡ None) × (p.replies.items ≡ []) × (p.traces.items ≡ [])) }
+        ensures room { IfOk result (λ p. (length requests.items ≤ vec_capacity p.replies) × (length requests.items ≤ vec_capacity p.traces)) }
+    {
         let mut replies = Vec::new(alloc);
         let mut traces = Vec::new(alloc);
         let count = requests.len();
@@ -51,13 +55,10 @@ impl Player {
         })
     }
 
-    /// Whether all its requests were served.
-    pub fn is_done(&self) -> bool {
-        self.task.is_none() && self.left.is_empty()
-    }
-
     /// The replies, and the traces.
-    pub fn into_served(self) -> (Vec<Reply>, Vec<Trace>) {
+    pub fn into_served(self) -> (Vec<Reply>, Vec<Trace>)
+        ensures { (result.0 ≡ self.replies) × (result.1 ≡ self.traces) }
+    {
         let Player {
             session: _,
             ids: _,
@@ -88,9 +89,8 @@ impl Player {
         requires known { task.session < opened_in store.old.journal }
         requires stands { StandsOn store.old.start store.old.journal task }
         ensures steps { StepsTask store.old.start store.old.journal store.new.journal (K.failed store.old.keeper) (K.failed store.new.keeper) self.old self.new task }
-        ensures base { SameBase store.old store.new }
-        ensures grows { Grows (Some task.session) store.old.journal store.new.journal }
         ensures faults { K.failed store.old.keeper ≤ K.failed store.new.keeper }
+        ensures base { SameBase store.old store.new }
         ensures lawful { IsLawful store.new }
     {
         let mut task = task;
@@ -111,7 +111,20 @@ impl Player {
         keyspace: &str,
         store: &mut Store<K>,
         clock: &mut C,
-    ) {
+    )
+        requires known { self.old.session < opened_in store.old.journal }
+        requires fit { CanGoOn store.old.start store.old.journal self.old }
+        ensures steps { StepsOnce store.old.start keyspace.now self.old self.new
+            (scene_of store.old.journal (K.failed store.old.keeper) (C.times clock.old)) (scene_of store.new.journal (K.failed store.new.keeper) (C.times clock.new)) }
+        ensures next { self.old.task ≡ None → self.new.left.items ≡ drop 1 self.old.left.items }
+        ensures fit { CanGoOn store.new.start store.new.journal self.new }
+        ensures session { self.new.session ≡ self.old.session }
+        ensures grown { Grown self.old.session store.old.journal (K.failed store.old.keeper) store.new.journal (K.failed store.new.keeper) }
+        ensures base { SameBase store.old store.new }
+        ensures lawful { IsLawful store.new }
+    {
+        store.journal_len();
+        sessions_go_on();
         if let Some(task) = self.task.take() {
             return self.step_task(alloc, store, task);
         }
@@ -133,7 +146,21 @@ impl Player {
     }
 
     // Serves the request under way to its end.
-    fn end_task<K: Keeper>(&mut self, alloc: Global, store: &mut Store<K>) {
+    fn end_task<K: Keeper>(&mut self, alloc: Global, store: &mut Store<K>)
+        requires known { self.old.session < opened_in store.old.journal }
+        requires fit { CanGoOn store.old.start store.old.journal self.old }
+        ensures steps { (count : ℕ) × ((keyspace : List ℕ) (times : Option (List ℤ)) → StepsOn store.old.start keyspace count self.old self.new
+            (scene_of store.old.journal (K.failed store.old.keeper) times) (scene_of store.new.journal (K.failed store.new.keeper) times)) }
+        ensures ended { self.new.task ≡ None }
+        ensures left { self.new.left ≡ self.old.left }
+        ensures fit { CanGoOn store.new.start store.new.journal self.new }
+        ensures session { self.new.session ≡ self.old.session }
+        ensures grown { Grown self.old.session store.old.journal (K.failed store.old.keeper) store.new.journal (K.failed store.new.keeper) }
+        ensures base { SameBase store.old store.new }
+        ensures lawful { IsLawful store.new }
+    {
+        store.journal_len();
+        sessions_go_on();
         'steps: while let Some(task) = self.task.take() {
             self.step_task(alloc, store, task);
         }
@@ -146,7 +173,18 @@ impl Player {
         keyspace: &str,
         store: &mut Store<K>,
         clock: &mut C,
-    ) {
+    )
+        requires known { self.old.session < opened_in store.old.journal }
+        requires fit { CanGoOn store.old.start store.old.journal self.old }
+        ensures steps { (count : ℕ) × StepsOn store.old.start keyspace.now count self.old self.new
+            (scene_of store.old.journal (K.failed store.old.keeper) (C.times clock.old)) (scene_of store.new.journal (K.failed store.new.keeper) (C.times clock.new)) }
+        ensures ended { IsIdle self.new }
+        ensures fit { CanGoOn store.new.start store.new.journal self.new }
+        ensures session { self.new.session ≡ self.old.session }
+        ensures grown { Grown self.old.session store.old.journal (K.failed store.old.keeper) store.new.journal (K.failed store.new.keeper) }
+        ensures base { SameBase store.old store.new }
+        ensures lawful { IsLawful store.new }
+    {
         self.end_task(alloc, store);
         'requests: while !self.left.is_empty() {
             self.step(alloc, keyspace, store, clock);

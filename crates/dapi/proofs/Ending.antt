@@ -13,16 +13,23 @@ use Rattle.store_core.specs.Opening.{missed, with_names, begun_with, opened_with
 use Rattle.store_core.specs.declared.entry.Entry.{Entry}
 use Rattle.store_core.specs.declared.open.OpenFault.{OpenFault}
 use Rattle.store_core.specs.declared.open.OpenFault.TheVariants as opens
-use Rattle.api_serve.specs.Run.{ServesLines, ServesInput, ServesWholeLines, ServesBefore, ServesFirst, ServesCut}
+use Rattle.api_serve.specs.Run.{ServesLines, ServesInput, ServesWholeLines, ServesBefore, ServesFirst, ServesCut, HasRead}
+use Rattle.api_serve.specs.Mix.{Plays, IsUnplayed, PlaysInput, PlaysAll, PlaysCut, ReadsWrong, EndsMix}
+use Rattle.api_serve.specs.Changes.{LosesNoChange}
+use Rattle.reply_env.specs.declared.request.Request.{Request}
+use Rattle.store_core.specs.Journal.{IsJournal}
+use Rattle.store_core.specs.State.{State}
 use Rattle.api_serve.specs.Ends.{EndsRun}
 use Rattle.api_serve.specs.declared.run.RunHow.{RunHow}
 use Rattle.api_serve.specs.declared.run.RunHow.TheVariants.{Done, ReadFault, WriteFault, TooLong, WrongLine, NoMemory}
 use Rattle.dapi.specs.declared.words.WordFault.{WordFault}
 use Rattle.dapi.specs.declared.words.WordFault.TheVariants as faults
-use Rattle.dapi.specs.Words.{RunsOn, IsUsage, IsWordFault}
+use Rattle.dapi.specs.declared.words.Cmd.{Cmd}
+use Rattle.dapi.specs.declared.words.Cmd.TheVariants.{Run, Mix}
+use Rattle.dapi.specs.Words.{AsksFor, IsUsage, IsWordFault}
 use Rattle.dapi.specs.Note.{status_of, note_of, note_at, line_note, word_status, open_status, open_note}
-use Rattle.dapi.specs.Ended.{EndsStore}
-use Rattle.dapi.specs.Top.{Runs, FailsOpening, IsOverfull, ServesNone}
+use Rattle.dapi.specs.Ended.{IsLeft, EndsRunOn, EndsMixOn, Unopened, EndsAs}
+use Rattle.dapi.specs.Top.{Opens, Leaves, Runs, Mixes, Ends, FailsOpening, IsOverfull, ServesNone}
 use Rattle.dapi.proofs.Choosing.{same_collections}
 
 -- the line that a run stopped at, or 0
@@ -85,6 +92,57 @@ module _ (P : List (List ℕ) → List ℕ → Type 0) (from to : Reading) (befo
   when_wrong TooLong e h = absurd (Prim.cc e)
   when_wrong NoMemory e h = absurd (Prim.cc e)
 
+-- ---- a mix that ended so
+
+module _ (P : List (List Request) → List ℕ → List ℕ → Type 0) (U : ℕ → Type 0) (from to : Reading) (before after : Writing) where
+  pub mix_done : (how : RunHow) → status_of how ≡ 0 → EndsMix P U from to before after how → PlaysAll P from to before after
+  mix_done Done e h = h
+  mix_done (ReadFault b a) e h = absurd (Prim.cc e)
+  mix_done (WriteFault b a nothing) e h = absurd (Prim.cc e)
+  mix_done TooLong e h = absurd (Prim.cc e)
+  mix_done (WrongLine line) e h = absurd (Prim.cc e)
+  mix_done NoMemory e h = absurd (Prim.cc e)
+
+  pub mix_unread : (how : RunHow) → status_of how ≡ 2 → EndsMix P U from to before after how → ((count : ℕ) × (count < 2 ^ 40) × HasRead from to count) × U 0
+  mix_unread (ReadFault b a) e h = h.1
+  mix_unread Done e h = absurd (Prim.cc e)
+  mix_unread (WriteFault b a nothing) e h = absurd (Prim.cc e)
+  mix_unread TooLong e h = absurd (Prim.cc e)
+  mix_unread (WrongLine line) e h = absurd (Prim.cc e)
+  mix_unread NoMemory e h = absurd (Prim.cc e)
+
+  pub mix_unwritten : (how : RunHow) → status_of how ≡ 3 → EndsMix P U from to before after how → PlaysCut P from to before after
+  mix_unwritten (WriteFault b a nothing) e h = h.1
+  mix_unwritten Done e h = absurd (Prim.cc e)
+  mix_unwritten (ReadFault b a) e h = absurd (Prim.cc e)
+  mix_unwritten TooLong e h = absurd (Prim.cc e)
+  mix_unwritten (WrongLine line) e h = absurd (Prim.cc e)
+  mix_unwritten NoMemory e h = absurd (Prim.cc e)
+
+  pub mix_long : (how : RunHow) → status_of how ≡ 5 → EndsMix P U from to before after how → HasRead from to (2 ^ 40) × U 0
+  mix_long TooLong e h = h
+  mix_long Done e h = absurd (Prim.cc e)
+  mix_long (ReadFault b a) e h = absurd (Prim.cc e)
+  mix_long (WriteFault b a nothing) e h = absurd (Prim.cc e)
+  mix_long (WrongLine line) e h = absurd (Prim.cc e)
+  mix_long NoMemory e h = absurd (Prim.cc e)
+
+  pub mix_short : (how : RunHow) → status_of how ≡ 9 → EndsMix P U from to before after how → ((count : ℕ) × U count) ⊎ ((count : ℕ) × PlaysInput P from to before after (take count))
+  mix_short NoMemory e h = h
+  mix_short Done e h = absurd (Prim.cc e)
+  mix_short (ReadFault b a) e h = absurd (Prim.cc e)
+  mix_short (WriteFault b a nothing) e h = absurd (Prim.cc e)
+  mix_short TooLong e h = absurd (Prim.cc e)
+  mix_short (WrongLine line) e h = absurd (Prim.cc e)
+
+  pub mix_wrong : (how : RunHow) → status_of how ≡ 6 → EndsMix P U from to before after how → ReadsWrong from to (line_of how) × U 0
+  mix_wrong (WrongLine line) e h = h
+  mix_wrong Done e h = absurd (Prim.cc e)
+  mix_wrong (ReadFault b a) e h = absurd (Prim.cc e)
+  mix_wrong (WriteFault b a nothing) e h = absurd (Prim.cc e)
+  mix_wrong TooLong e h = absurd (Prim.cc e)
+  mix_wrong NoMemory e h = absurd (Prim.cc e)
+
 note_of_line : (how : RunHow) → status_of how ≡ 6 → note_of how ≡ line_note (line_of how)
 note_of_line (WrongLine line) e = refl
 note_of_line Done e = absurd (Prim.cc e)
@@ -110,37 +168,65 @@ made_all count collections (Some t) =
     (length (missed collections t), ap Some (back ∙ ap (λ (names : List (List ℕ)). with_names names t) (sym whole)))
 
 module _ {K : Type 0} (tables : K → Option Tables) (failed : K → ℕ) (words : List (List ℕ)) (given kept : K) (keyspace seed : List ℕ) (collections : List (List ℕ)) (store : Stored K) (times : Option (List ℤ))
-    (asked : RunsOn words keyspace collections) (begins : (store.journal ≡ []) × (store.keeper ≡ store.base)) (made : tables store.base ≡ option_map (opened_with collections) (tables given))
+    (begins : (store.journal ≡ []) × (store.keeper ≡ store.base)) (made : tables store.base ≡ option_map (opened_with collections) (tables given))
     (start : store.start ≡ option_map (start_of (failed store.base)) (tables store.base)) (first : ForSome (tables given) (λ t. (store.first ≡ t.last + 1) × (would_live collections t ≤ 100)))
-    (grows : failed given ≤ failed store.base) where
-  module _ (from to : Reading) (before after : Writing) (how : RunHow) (Ended : (List (List ℕ) → List ℕ → Type 0) → Type 0) where
-    runs_so : ((P : List (List ℕ) → List ℕ → Type 0) → EndsRun P from to before after how → Ended P) → EndsStore tables failed keyspace seed store times kept from to before after how → Runs tables failed words given kept seed times Ended
-    runs_so so e = record {
-      keyspace = keyspace;
-      collections = collections;
-      asked = asked;
-      count = failed store.base;
-      counts = grows;
-      start = store.start;
-      start_is = start ∙ told_start (failed store.base) collections (tables store.base) (tables given) made;
-      first = store.first;
-      first_is = λ t told. (first t told).0;
+    (grows : failed given ≤ failed store.base) (no_change_is_lost : (base : State) (history : List Entry) → IsJournal base history → LosesNoChange base history) where
+  opens : (command : Cmd) → AsksFor words command keyspace collections → Opens tables failed words given kept command
+  opens command asked = record {
+    keyspace = keyspace;
+    collections = collections;
+    asked = asked;
+    count = failed store.base;
+    counts = grows;
+    start = store.start;
+    start_is = start ∙ told_start (failed store.base) collections (tables store.base) (tables given) made;
+    first = store.first;
+    first_is = λ t told. (first t told).0;
+  }
+
+  leaves : (history : List Entry) → IsLeft tables store kept history → Leaves tables failed words given kept store.start history
+  leaves history l = record { tables_are = l.tables_are; changes = λ base told. no_change_is_lost base history (l.legal base told) }
+
+  module _ (from to : Reading) (before after : Writing) (how : RunHow) where
+    runs_so : AsksFor words Run keyspace collections → (Ended : (List (List ℕ) → List ℕ → Type 0) → Type 0) → ((P : List (List ℕ) → List ℕ → Type 0) → EndsRun P from to before after how → Ended P)
+        → EndsRunOn tables failed keyspace seed store times kept from to before after how → Runs tables failed words given kept seed times Ended
+    runs_so asked Ended so e = record {
+      opened = opens Run asked;
       history = e.history;
       traces = e.traces;
       later = e.later;
       ended =
           subst (λ (k : K). Ended (ServesLines keyspace seed store.start store.first (record { journal = []; failed = failed k; traces = []; times = times }) (record { journal = e.history; failed = failed kept; traces = e.traces; times = e.later }))) begins.1
           (subst (λ (h : List Entry). Ended (ServesLines keyspace seed store.start store.first (record { journal = h; failed = failed store.keeper; traces = []; times = times }) (record { journal = e.history; failed = failed kept; traces = e.traces; times = e.later }))) begins.0 (so _ e.ended));
-      tables_are = e.tables_are;
+      leaves = leaves e.history e.left;
+    }
+
+    mixes_so : AsksFor words Mix keyspace collections → (Ended : (List (List Request) → List ℕ → List ℕ → Type 0) → (ℕ → Type 0) → Type 0)
+        → ((P : List (List Request) → List ℕ → List ℕ → Type 0) (U : ℕ → Type 0) → EndsMix P U from to before after how → Ended P U)
+        → EndsMixOn tables failed keyspace seed store times kept from to before after how → Mixes tables failed words given kept seed times before after Ended
+    mixes_so asked Ended so e = record {
+      opened = opens Mix asked;
+      history = e.history;
+      traces = e.traces;
+      later = e.later;
+      ended =
+          subst (λ (k : K). Ended
+              (Plays keyspace seed store.start store.first (record { journal = []; failed = failed k; times = times }) (record { journal = e.history; failed = failed kept; times = e.later }) e.traces)
+              (IsUnplayed (record { journal = []; failed = failed k; times = times }) (record { journal = e.history; failed = failed kept; times = e.later }) e.traces before after)) begins.1
+          (subst (λ (h : List Entry). Ended
+              (Plays keyspace seed store.start store.first (record { journal = h; failed = failed store.keeper; times = times }) (record { journal = e.history; failed = failed kept; times = e.later }) e.traces)
+              (IsUnplayed (record { journal = h; failed = failed store.keeper; times = times }) (record { journal = e.history; failed = failed kept; times = e.later }) e.traces before after)) begins.0 (so _ _ e.ended));
+      leaves = leaves e.history e.left;
     }
 
   -- no session was opened: the missing collections were made, and nothing else was done
-  none_served : tables kept ≡ option_map (λ s. tables_of (replay s store.journal)) store.start → FailsOpening tables failed words given kept
-  none_served are =
+  none_served : (command : Cmd) → AsksFor words command keyspace collections → tables kept ≡ option_map (λ s. tables_of (replay s store.journal)) store.start → FailsOpening tables failed words given kept
+  none_served command asked are =
       let whole = made_all (failed store.base) collections (tables given) in
       record {
         keyspace = keyspace;
         collections = collections;
+        command = command;
         asked = asked;
         made = whole.0;
         tables_are =
@@ -150,62 +236,64 @@ module _ {K : Type 0} (tables : K → Option Tables) (failed : K → ℕ) (words
       }
 
   -- how it ended, and that it did, or that no session was opened
-  module _ {S W : Type 0} (source source' : S) (sink sink' : W) (from to : Reading) (before after : Writing) (status : ℕ) (how : RunHow) (is : status ≡ status_of how)
-      (ran : EndsStore tables failed keyspace seed store times kept from to before after how ⊎ ((how ≡ NoMemory) × (source' ≡ source) × (sink' ≡ sink) × (tables kept ≡ option_map (λ s. tables_of (replay s store.journal)) store.start))) where
-    begun : (n : ℕ) → (9 ≡ n → ⊥) → status ≡ n → EndsStore tables failed keyspace seed store times kept from to before after how
-    begun n other e = did_begin ran
-      where
-        did_begin : EndsStore tables failed keyspace seed store times kept from to before after how ⊎ ((how ≡ NoMemory) × (source' ≡ source) × (sink' ≡ sink) × (tables kept ≡ option_map (λ s. tables_of (replay s store.journal)) store.start)) → EndsStore tables failed keyspace seed store times kept from to before after how
-        did_begin (inl e') = e'
-        did_begin (inr none) = absurd (other (sym (ap status_of none.0) ∙ sym is ∙ e))
+  module _ (Untouched : Type 0) (from to : Reading) (before after : Writing) (status : ℕ) (how : RunHow) (is : status ≡ status_of how) where
+    -- by a status that isn't that of want of memory
+    ends_so : (n : ℕ) → (9 ≡ n → ⊥) → (of_run : (List (List ℕ) → List ℕ → Type 0) → Type 0) (of_mix : (List (List Request) → List ℕ → List ℕ → Type 0) → (ℕ → Type 0) → Type 0)
+        → ((P : List (List ℕ) → List ℕ → Type 0) → status_of how ≡ n → EndsRun P from to before after how → of_run P)
+        → ((P : List (List Request) → List ℕ → List ℕ → Type 0) (U : ℕ → Type 0) → status_of how ≡ n → EndsMix P U from to before after how → of_mix P U)
+        → (command : Cmd) → AsksFor words command keyspace collections → EndsAs tables failed keyspace seed store times kept from to before after how Untouched command → status ≡ n
+        → Ends tables failed words given kept seed times before after of_run of_mix
+    ends_so n other of_run of_mix run mix Run asked (inl ran) e = inl (runs_so from to before after how asked of_run (λ P. run P (sym is ∙ e)) ran)
+    ends_so n other of_run of_mix run mix Run asked (inr none) e = absurd (other (sym (ap status_of none.none) ∙ sym is ∙ e))
+    ends_so n other of_run of_mix run mix Mix asked ran e = inr (mixes_so from to before after how asked of_mix (λ P U. mix P U (sym is ∙ e)) ran)
 
-    status_is : (n : ℕ) → status ≡ n → status_of how ≡ n
-    status_is n e = sym is ∙ e
+    module _ (command : Cmd) (asked : AsksFor words command keyspace collections) (ran : EndsAs tables failed keyspace seed store times kept from to before after how Untouched command) where
+      pub ran_whole : status ≡ 0 → Ends tables failed words given kept seed times before after (λ Served. ServesInput Served from to before after) (λ Played Unplayed. PlaysAll Played from to before after)
+      ran_whole = ends_so 0 (λ n. Prim.cc n) _ _ (λ P. λ s. when_done P from to before after how s) (λ P U. λ s. mix_done P U from to before after how s) command asked ran
 
-    pub ran_whole : status ≡ 0 → Runs tables failed words given kept seed times (λ Served. ServesInput Served from to before after)
-    ran_whole e = runs_so from to before after how (λ Served. ServesInput Served from to before after) (λ P. when_done P from to before after how (status_is 0 e)) (begun 0 (λ n. Prim.cc n) e)
+      pub ran_unread : status ≡ 2 → Ends tables failed words given kept seed times before after (λ Served. (count : ℕ) × (count < 2 ^ 40) × ServesWholeLines Served from to before after count)
+          (λ Played Unplayed. ((count : ℕ) × (count < 2 ^ 40) × HasRead from to count) × Unplayed 0)
+      ran_unread = ends_so 2 (λ n. Prim.cc n) _ _ (λ P. λ s. when_unread P from to before after how s) (λ P U. λ s. mix_unread P U from to before after how s) command asked ran
 
-    pub ran_unread : status ≡ 2 → Runs tables failed words given kept seed times (λ Served. (count : ℕ) × (count < 2 ^ 40) × ServesWholeLines Served from to before after count)
-    ran_unread e = runs_so from to before after how (λ Served. (count : ℕ) × (count < 2 ^ 40) × ServesWholeLines Served from to before after count) (λ P. when_unread P from to before after how (status_is 2 e)) (begun 2 (λ n. Prim.cc n) e)
+      pub ran_unwritten : status ≡ 3 → Ends tables failed words given kept seed times before after (λ Served. ServesCut Served from to before after) (λ Played Unplayed. PlaysCut Played from to before after)
+      ran_unwritten = ends_so 3 (λ n. Prim.cc n) _ _ (λ P. λ s. when_unwritten P from to before after how s) (λ P U. λ s. mix_unwritten P U from to before after how s) command asked ran
 
-    pub ran_unwritten : status ≡ 3 → Runs tables failed words given kept seed times (λ Served. ServesCut Served from to before after)
-    ran_unwritten e = runs_so from to before after how (λ Served. ServesCut Served from to before after) (λ P. when_unwritten P from to before after how (status_is 3 e)) (begun 3 (λ n. Prim.cc n) e)
+      pub ran_long : status ≡ 5 → Ends tables failed words given kept seed times before after (λ Served. ServesWholeLines Served from to before after (2 ^ 40)) (λ Played Unplayed. HasRead from to (2 ^ 40) × Unplayed 0)
+      ran_long = ends_so 5 (λ n. Prim.cc n) _ _ (λ P. λ s. when_long P from to before after how s) (λ P U. λ s. mix_long P U from to before after how s) command asked ran
 
-    pub ran_long : status ≡ 5 → Runs tables failed words given kept seed times (λ Served. ServesWholeLines Served from to before after (2 ^ 40))
-    ran_long e = runs_so from to before after how (λ Served. ServesWholeLines Served from to before after (2 ^ 40)) (λ P. when_long P from to before after how (status_is 5 e)) (begun 5 (λ n. Prim.cc n) e)
+      pub ran_wrong : (Noted : List ℕ → Type 0) → Noted (note_of how) → status ≡ 6 → (line : ℕ) × Noted (line_note line)
+          × Ends tables failed words given kept seed times before after (λ Served. ServesBefore Served from to before after line) (λ Played Unplayed. ReadsWrong from to line × Unplayed 0)
+      ran_wrong Noted noted e = (
+        line_of how,
+        subst Noted (note_of_line how (sym is ∙ e)) noted,
+        ends_so 6 (λ n. Prim.cc n) _ _ (λ P. λ s. when_wrong P from to before after how s) (λ P U. λ s. mix_wrong P U from to before after how s) command asked ran e,
+      )
 
-    pub ran_wrong : (Noted : List ℕ → Type 0) → Noted (note_of how) → status ≡ 6 → (line : ℕ) × Noted (line_note line) × Runs tables failed words given kept seed times (λ Served. ServesBefore Served from to before after line)
-    ran_wrong Noted noted e = (
-      line_of how,
-      subst Noted (note_of_line how (status_is 6 e)) noted,
-      runs_so from to before after how (λ Served. ServesBefore Served from to before after (line_of how)) (λ P. when_wrong P from to before after how (status_is 6 e)) (begun 6 (λ n. Prim.cc n) e),
-    )
-
-    pub ran_short : status ≡ 9 → ((source' ≡ source) × (sink' ≡ sink) × ServesNone tables failed words given kept) ⊎ Runs tables failed words given kept seed times (λ Served. ServesFirst Served from to before after)
-    ran_short e = short ran
-      where
-        short : EndsStore tables failed keyspace seed store times kept from to before after how ⊎ ((how ≡ NoMemory) × (source' ≡ source) × (sink' ≡ sink) × (tables kept ≡ option_map (λ s. tables_of (replay s store.journal)) store.start))
-            → ((source' ≡ source) × (sink' ≡ sink) × ServesNone tables failed words given kept) ⊎ Runs tables failed words given kept seed times (λ Served. ServesFirst Served from to before after)
-        short (inl e') = inr (runs_so from to before after how (λ Served. ServesFirst Served from to before after) (λ P. when_short P from to before after how (status_is 9 e)) e')
-        short (inr none) = inl (none.1, none.2, inr (none_served none.3))
+    -- by want of memory
+    pub ran_short : (command : Cmd) → AsksFor words command keyspace collections → EndsAs tables failed keyspace seed store times kept from to before after how Untouched command → status ≡ 9
+        → (Untouched × ServesNone tables failed words given kept)
+        ⊎ Ends tables failed words given kept seed times before after (λ Served. ServesFirst Served from to before after) (λ Played Unplayed. ((count : ℕ) × Unplayed count) ⊎ ((count : ℕ) × PlaysInput Played from to before after (take count)))
+    ran_short Run asked (inl ran) e = inr (inl (runs_so from to before after how asked _ (λ P. when_short P from to before after how (sym is ∙ e)) ran))
+    ran_short Run asked (inr none) e = inl (none.untouched, inr (none_served Run asked none.left.tables_are))
+    ran_short Mix asked ran e = inr (inr (mixes_so from to before after how asked _ (λ P U. mix_short P U from to before after how (sym is ∙ e)) ran))
 
 -- ---- a store that wasn't opened
 
-module _ {K : Type 0} (tables : K → Option Tables) (failed : K → ℕ) (words : List (List ℕ)) (given kept : K) (keyspace : List ℕ) (collections : List (List ℕ)) (status : ℕ) (asked : RunsOn words keyspace collections) where
+module _ {K : Type 0} (tables : K → Option Tables) (failed : K → ℕ) (words : List (List ℕ)) (given kept : K) (command : Cmd) (keyspace : List ℕ) (collections : List (List ℕ)) (status : ℕ) (asked : AsksFor words command keyspace collections) where
   pub refused_so : (Noted : List ℕ → Type 0) (fault : OpenFault K) → status ≡ open_status fault → kept ≡ keeper_in fault → Refuses tables failed collections given fault → Noted (open_note fault) → status ≡ 4
       → (Rose (failed given) (failed kept) × FailsOpening tables failed words given kept × Noted (codes "keeper fault\n")) ⊎ (IsOverfull tables failed words given kept × Noted (codes "too many collections\n"))
   refused_so Noted (opens.KeeperFault keeper b a) is back refuses noted four =
       inl (
         subst (λ (k : K). Rose (failed given) (failed k)) (sym back) (subst (λ (n : ℕ). Rose (failed given) n) refuses.1 (subst (λ (n : ℕ). Rose n a) refuses.0 refuses.2)),
-        record { keyspace = keyspace; collections = collections; asked = asked; made = refuses.3.0; tables_are = ap tables back ∙ refuses.3.1 },
+        record { keyspace = keyspace; collections = collections; command = command; asked = asked; made = refuses.3.0; tables_are = ap tables back ∙ refuses.3.1 },
         noted,
       )
   refused_so Noted (opens.TooMany keeper) is back refuses noted four =
-      inr (record { keyspace = keyspace; collections = collections; asked = asked; over = λ t told. let over = refuses t told in (over.0, ap tables back ∙ over.1) }, noted)
+      inr (record { keyspace = keyspace; collections = collections; command = command; asked = asked; over = λ t told. let over = refuses t told in (over.0, ap tables back ∙ over.1) }, noted)
   refused_so Noted (opens.NoMemory keeper) is back refuses noted four = absurd (Prim.cc (sym is ∙ four))
 
   pub refused_short : (fault : OpenFault K) → status ≡ open_status fault → kept ≡ keeper_in fault → Refuses tables failed collections given fault → status ≡ 9 → ServesNone tables failed words given kept
-  refused_short (opens.NoMemory keeper) is back refuses nine = inr (record { keyspace = keyspace; collections = collections; asked = asked; made = refuses.0; tables_are = ap tables back ∙ refuses.1 })
+  refused_short (opens.NoMemory keeper) is back refuses nine = inr (record { keyspace = keyspace; collections = collections; command = command; asked = asked; made = refuses.0; tables_are = ap tables back ∙ refuses.1 })
   refused_short (opens.KeeperFault keeper b a) is back refuses nine = absurd (Prim.cc (sym is ∙ nine))
   refused_short (opens.TooMany keeper) is back refuses nine = absurd (Prim.cc (sym is ∙ nine))
 
@@ -217,8 +305,8 @@ refused_noted status Noted (opens.NoMemory keeper) is noted other = subst Noted 
 pub note_at_fault : {K : Type 0} (Noted : List ℕ → Type 0) (fault given : OpenFault K) → given ≡ fault → Noted (open_note fault) → Noted (open_note given)
 note_at_fault Noted fault given is noted = subst Noted (sym (ap open_note is)) noted
 
-pub asked_as : (words : List (List ℕ)) (keyspace keyspace' : List ℕ) (collections collections' : List (List ℕ)) → keyspace' ≡ keyspace → collections' ≡ collections → RunsOn words keyspace collections → RunsOn words keyspace' collections'
-asked_as words keyspace keyspace' collections collections' same are run = record { choices = run.choices; words_are = run.words_are; allowed = run.allowed; keyspace_is = same ∙ run.keyspace_is; collections_are = are ∙ run.collections_are }
+pub asked_as : (words : List (List ℕ)) (keyspace keyspace' : List ℕ) (collections collections' : List (List ℕ)) (command : Cmd) → keyspace' ≡ keyspace → collections' ≡ collections → AsksFor words command keyspace collections → AsksFor words command keyspace' collections'
+asked_as words keyspace keyspace' collections collections' command same are run = record { choices = run.choices; words_are = run.words_are; allowed = run.allowed; keyspace_is = same ∙ run.keyspace_is; collections_are = are ∙ run.collections_are }
 
 -- ---- words that can't be used
 
@@ -228,41 +316,50 @@ module _ (words : List (List ℕ)) (status : ℕ) where
   unused_usage faults.NoMemory is usage one = absurd (Prim.cc (sym is ∙ one))
 
   -- where the words run on a keyspace, memory was wanting
-  pub unused_run : (fault : WordFault) → status ≡ word_status fault → IsWordFault words fault → (keyspace : List ℕ) (collections : List (List ℕ)) → RunsOn words keyspace collections → status ≡ 9
-  unused_run faults.Usage is usage keyspace collections run = absurd (usage keyspace collections run)
-  unused_run faults.NoMemory is usage keyspace collections run = is
+  pub unused_run : (fault : WordFault) → status ≡ word_status fault → IsWordFault words fault → (command : Cmd) (keyspace : List ℕ) (collections : List (List ℕ)) → AsksFor words command keyspace collections → status ≡ 9
+  unused_run faults.Usage is usage command keyspace collections run = absurd (usage command keyspace collections run)
+  unused_run faults.NoMemory is usage command keyspace collections run = is
 
 -- no store is opened where too many would live
-pub opened_few : (words : List (List ℕ)) (keyspace₁ keyspace₂ : List ℕ) (cs ds : List (List ℕ)) (tables : Option Tables) (status : ℕ) → RunsOn words keyspace₁ cs → RunsOn words keyspace₂ ds → ForSome tables (λ t. would_live cs t ≤ 100)
+pub opened_few : (words : List (List ℕ)) (command₁ command₂ : Cmd) (keyspace₁ keyspace₂ : List ℕ) (cs ds : List (List ℕ)) (tables : Option Tables) (status : ℕ) → AsksFor words command₁ keyspace₁ cs → AsksFor words command₂ keyspace₂ ds → ForSome tables (λ t. would_live cs t ≤ 100)
     → ForSome tables (λ t. 100 < would_live ds t → (status ≡ 4) ⊎ (status ≡ 9))
-opened_few words keyspace₁ keyspace₂ cs ds tables status a b few t told over =
-    let most : would_live ds t ≤ 100 = subst (λ (ns : List (List ℕ)). would_live ns t ≤ 100) (same_collections words keyspace₁ keyspace₂ cs ds a b) (few t told) in
+opened_few words command₁ command₂ keyspace₁ keyspace₂ cs ds tables status a b few t told over =
+    let most : would_live ds t ≤ 100 = subst (λ (ns : List (List ℕ)). would_live ns t ≤ 100) (same_collections words command₁ command₂ keyspace₁ keyspace₂ cs ds a b) (few t told) in
     absurd (omega (arith, most, over))
 
--- ---- a run on a store, and what its keeper is then
+-- ---- a command on a store, and what its keeper is then
 
 module _ {K : Type 0} (tables : K → Option Tables) (failed : K → ℕ) (keyspace seed : List ℕ) (old new : Stored K) (times later : Option (List ℤ)) (kept : K) (from to : Reading) (before after : Writing) (how : RunHow) (back : kept ≡ new.keeper)
-    (tables_are : tables kept ≡ option_map (λ s. tables_of (replay s new.journal)) new.start) (base : new.start ≡ old.start) where
-  pub store_ends : (traces : List Trace) → EndsRun (ServesLines keyspace seed old.start old.first (record { journal = old.journal; failed = failed old.keeper; traces = []; times = times }) (record { journal = new.journal; failed = failed new.keeper; traces = traces; times = later })) from to before after how
-      → EndsStore tables failed keyspace seed old times kept from to before after how
-  store_ends traces ended = record {
-    history = new.journal;
-    traces = traces;
-    later = later;
-    ended =
-        subst (λ (k : K). EndsRun (ServesLines keyspace seed old.start old.first (record { journal = old.journal; failed = failed old.keeper; traces = []; times = times }) (record { journal = new.journal; failed = failed k; traces = traces; times = later })) from to before after how)
-        (sym back) ended;
-    tables_are = tables_are ∙ ap (option_map (λ s. tables_of (replay s new.journal))) base;
-  }
+    (tables_are : tables kept ≡ option_map (λ s. tables_of (replay s new.journal)) new.start) (legal : ForSome new.start (λ b. IsJournal b new.journal)) (base : new.start ≡ old.start) where
+  left : IsLeft tables old kept new.journal
+  left = record { tables_are = tables_are ∙ ap (option_map (λ s. tables_of (replay s new.journal))) base; legal = subst (λ (o : Option State). ForSome o (λ b. IsJournal b new.journal)) base legal }
 
   pub store_ran : (Kept : List Trace → Type 0) (None_kept Same_source Same_sink : Type 0)
       → ((traces : List Trace) × Kept traces × EndsRun (ServesLines keyspace seed old.start old.first (record { journal = old.journal; failed = failed old.keeper; traces = []; times = times }) (record { journal = new.journal; failed = failed new.keeper; traces = traces; times = later })) from to before after how)
       ⊎ ((how ≡ NoMemory) × None_kept × (new.journal ≡ old.journal) × Same_source × Same_sink)
-      → EndsStore tables failed keyspace seed old times kept from to before after how ⊎ ((how ≡ NoMemory) × Same_source × Same_sink × (tables kept ≡ option_map (λ s. tables_of (replay s old.journal)) old.start))
-  store_ran Kept None_kept Same_source Same_sink (inl e) = inl (store_ends e.0 e.2)
-  store_ran Kept None_kept Same_source Same_sink (inr none) = inr (
-    none.0,
-    none.3,
-    none.4,
-    tables_are ∙ ap (option_map (λ s. tables_of (replay s new.journal))) base ∙ ap (λ (journal : List Entry). option_map (λ s. tables_of (replay s journal)) old.start) none.2,
-  )
+      → EndsAs tables failed keyspace seed old times kept from to before after how (Same_source × Same_sink) Run
+  store_ran Kept None_kept Same_source Same_sink (inl e) = inl (record {
+    history = new.journal;
+    traces = e.0;
+    later = later;
+    ended =
+        subst (λ (k : K). EndsRun (ServesLines keyspace seed old.start old.first (record { journal = old.journal; failed = failed old.keeper; traces = []; times = times }) (record { journal = new.journal; failed = failed k; traces = e.0; times = later })) from to before after how)
+        (sym back) e.2;
+    left = left;
+  })
+  store_ran Kept None_kept Same_source Same_sink (inr none) = inr (record { none = none.0; untouched = (none.3, none.4); left = subst (IsLeft tables old kept) none.2 left })
+
+  pub store_mixed : (traces : List (List Trace))
+      → EndsMix (Plays keyspace seed old.start old.first (record { journal = old.journal; failed = failed old.keeper; times = times }) (record { journal = new.journal; failed = failed new.keeper; times = later }) traces)
+          (IsUnplayed (record { journal = old.journal; failed = failed old.keeper; times = times }) (record { journal = new.journal; failed = failed new.keeper; times = later }) traces before after) from to before after how
+      → EndsMixOn tables failed keyspace seed old times kept from to before after how
+  store_mixed traces e = record {
+    history = new.journal;
+    traces = traces;
+    later = later;
+    ended =
+        subst (λ (k : K). EndsMix (Plays keyspace seed old.start old.first (record { journal = old.journal; failed = failed old.keeper; times = times }) (record { journal = new.journal; failed = failed k; times = later }) traces)
+            (IsUnplayed (record { journal = old.journal; failed = failed old.keeper; times = times }) (record { journal = new.journal; failed = failed k; times = later }) traces before after) from to before after how)
+        (sym back) e;
+    left = left;
+  }

@@ -1,21 +1,23 @@
 //! The program's top call.
-ghost use Rattle.std.specs.Prelude.{◌≡◌, ◌⊎◌, ◌≤◌, ◌<◌, ◌^◌, ℕ, List, codes, map, string_bytes, IsTrue};
-ghost use Rattle.std.specs.Option.{ForSome, option_map};
+ghost use Rattle.std.specs.Prelude.{◌≡◌, ◌⊎◌, ◌≤◌, ◌<◌, ◌^◌, ℕ, List, codes, map, string_bytes, take, IsTrue};
+ghost use Rattle.std.specs.Option.{ForSome};
 ghost use Rattle.outside_io.specs.Causes.{Rose};
 ghost use Rattle.outside_io.specs.Told.{IsHindered};
 ghost use Rattle.store_core.specs.Opening.{would_live, keeper_in};
-ghost use Rattle.store_core.specs.State.{tables_of};
-ghost use Rattle.store_core.specs.Journal.{replay};
 ghost use Rattle.api_serve.specs.Run.{ServesInput, ServesWholeLines, ServesBefore, ServesCut, ServesFirst, HasRead};
-ghost use Rattle.dapi.specs.Words.{RunsOn, IsUsage};
-ghost use Rattle.dapi.specs.Top.{Runs, FailsOpening, IsOverfull, ServesNone};
-ghost use Rattle.dapi.specs.Complete.{IsUnhindered, RunsUndisturbed};
+ghost use Rattle.api_serve.specs.Mix.{PlaysInput, PlaysAll, PlaysCut, ReadsWrong};
+ghost use Rattle.dapi.specs.Words.{AsksFor, IsUsage};
+ghost use Rattle.dapi.specs.Top.{Ends, FailsOpening, IsOverfull, ServesNone};
+ghost use Rattle.dapi.specs.Complete.{IsUnhindered, RunsUndisturbed, MixesUndisturbed};
 ghost use Rattle.dapi.specs.Note.{IsNoted, line_note, note_at, is_status, status_of, note_of, word_status, word_note, open_status, open_note};
-ghost use Rattle.dapi.specs.Ended.{EndsStore};
+ghost use Rattle.dapi.specs.Ended.{EndsAs};
 
 use crate::note::{note_of, status_of, word_note, word_status, write_note};
 use crate::words::{Cmd, WordFault, read};
-use api_serve::{RunEnd, RunHow, an_input_has_one_list_of_lines, mix, run_lines};
+use api_serve::{
+    RunEnd, RunHow, a_script_has_no_wrong_line, an_input_has_one_list_of_lines, mix,
+    no_change_is_lost, run_lines,
+};
 use cmd_tasks::{
     a_count_that_stays_has_no_fault, a_refused_request_blames_itself, a_session_alone_loses_nothing,
 };
@@ -81,9 +83,8 @@ fn run_store<S: Source, W: Sink, E: Sink, K: Keeper, C: Clock>(
     seed: &[u8; 28],
 ) -> (u8, K)
     ensures ran { (how : RunHow) × (result.0 ≡ status_of how) × IsNoted (E.writing notes.old) (E.writing notes.new) (note_of how)
-        × (EndsStore K.tables K.failed keyspace.now seed.now store (C.times clock.old) result.1 (S.reading source.old) (S.reading source.new) (W.writing sink.old) (W.writing sink.new) how
-        ⊎ ((how ≡ RunHow.NoMemory) × (source.new ≡ source.old) × (sink.new ≡ sink.old)
-        × (K.tables result.1 ≡ option_map (λ s. tables_of (replay s store.journal)) store.start))) }
+        × EndsAs K.tables K.failed keyspace.now seed.now store (C.times clock.old) result.1 (S.reading source.old) (S.reading source.new) (W.writing sink.old) (W.writing sink.new) how
+        ((source.new ≡ source.old) × (sink.new ≡ sink.old)) command }
     ensures bounded { (count : ℕ) × (count ≤ 2 ^ 40) × HasRead (S.reading source.old) (S.reading source.new) count }
     ensures faults { K.failed store.keeper ≤ K.failed result.1 }
 {
@@ -109,12 +110,17 @@ pub fn dapi<S: Source, W: Sink, E: Sink, K: Keeper, C: Clock>(
     clock: &mut C,
     seed: &[u8; 28],
 ) -> (u8, K)
-    // Every line was read, its request served, and the replies to all of them were written, in order, and nothing else.
-    ensures answered { result.0 ≡ 0 → Runs K.tables K.failed (map string_bytes words.now) keeper result.1 seed.now (C.times clock.old)
-        (λ Served. ServesInput Served (S.reading source.old) (S.reading source.new) (W.writing sink.old) (W.writing sink.new)) }
+    // Every line was read, its request served, and the replies to all of them were written, in order, and nothing else; or the
+    // input is a script, which was played to its end, and the replies of all its sessions were written.
+    ensures answered { result.0 ≡ 0 → Ends K.tables K.failed (map string_bytes words.now) keeper result.1 seed.now (C.times clock.old) (W.writing sink.old) (W.writing sink.new)
+        (λ Served. ServesInput Served (S.reading source.old) (S.reading source.new) (W.writing sink.old) (W.writing sink.new))
+        (λ Played Unplayed. PlaysAll Played (S.reading source.old) (S.reading source.new) (W.writing sink.old) (W.writing sink.new)) }
 
-    // Nobody disturbed a request: no reply tells lost writes, nor a failed call where the keeper's count of faults didn't rise.
+    // Nobody disturbed a request of a single session: no reply tells lost writes. No reply of any tells a failed call where the
+    // keeper's count of faults didn't rise.
     ensures undisturbed { result.0 ≡ 0 → RunsUndisturbed K.tables K.failed (map string_bytes words.now) keeper result.1
+        (S.reading source.old) (S.reading source.new) (W.writing sink.old) (W.writing sink.new) seed.now (C.times clock.old)
+        ⊎ MixesUndisturbed K.tables K.failed (map string_bytes words.now) keeper result.1
         (S.reading source.old) (S.reading source.new) (W.writing sink.old) (W.writing sink.new) seed.now (C.times clock.old) }
 
     // Where nothing stands in the way, all is read and written, or memory ran out.
@@ -126,15 +132,18 @@ pub fn dapi<S: Source, W: Sink, E: Sink, K: Keeper, C: Clock>(
     ensures used { IsUsage (map string_bytes words.now) → (result.0 ≡ 1) ⊎ (result.0 ≡ 9) }
     ensures untouched { result.0 ≡ 1 → (source.new ≡ source.old) × (sink.new ≡ sink.old) × (result.1 ≡ keeper) }
 
-    // The source failed; the replies to the requests of all whole lines that were read stand.
+    // The source failed; the replies to the requests of all whole lines that were read stand. Of a script nothing is served then.
     ensures read_fault { result.0 ≡ 2 → Rose (S.reading source.old).failed (S.reading source.new).failed }
-    ensures read_so_far { result.0 ≡ 2 → Runs K.tables K.failed (map string_bytes words.now) keeper result.1 seed.now (C.times clock.old)
-        (λ Served. (count : ℕ) × (count < 2 ^ 40) × ServesWholeLines Served (S.reading source.old) (S.reading source.new) (W.writing sink.old) (W.writing sink.new) count) }
+    ensures read_so_far { result.0 ≡ 2 → Ends K.tables K.failed (map string_bytes words.now) keeper result.1 seed.now (C.times clock.old) (W.writing sink.old) (W.writing sink.new)
+        (λ Served. (count : ℕ) × (count < 2 ^ 40) × ServesWholeLines Served (S.reading source.old) (S.reading source.new) (W.writing sink.old) (W.writing sink.new) count)
+        (λ Played Unplayed. ((count : ℕ) × (count < 2 ^ 40) × HasRead (S.reading source.old) (S.reading source.new) count) × Unplayed 0) }
 
-    // The sink failed or ended; a front of the replies to the requests of some first lines stands.
+    // The sink failed or ended; a front of the replies to the requests of some first lines stands, or of those of a script that was
+    // played to its end.
     ensures write_fault { result.0 ≡ 3 → IsHindered (W.writing sink.old) (W.writing sink.new) }
-    ensures written_so_far { result.0 ≡ 3 → Runs K.tables K.failed (map string_bytes words.now) keeper result.1 seed.now (C.times clock.old)
-        (λ Served. ServesCut Served (S.reading source.old) (S.reading source.new) (W.writing sink.old) (W.writing sink.new)) }
+    ensures written_so_far { result.0 ≡ 3 → Ends K.tables K.failed (map string_bytes words.now) keeper result.1 seed.now (C.times clock.old) (W.writing sink.old) (W.writing sink.new)
+        (λ Served. ServesCut Served (S.reading source.old) (S.reading source.new) (W.writing sink.old) (W.writing sink.new))
+        (λ Played Unplayed. PlaysCut Played (S.reading source.old) (S.reading source.new) (W.writing sink.old) (W.writing sink.new)) }
 
     // The store couldn't be opened: a call of the keeper failed, or over 100 collections would live. Nothing was read or written.
     ensures unopened { result.0 ≡ 4 → (Rose (K.failed keeper) (K.failed result.1) × FailsOpening K.tables K.failed (map string_bytes words.now) keeper result.1
@@ -142,22 +151,25 @@ pub fn dapi<S: Source, W: Sink, E: Sink, K: Keeper, C: Clock>(
         ⊎ (IsOverfull K.tables K.failed (map string_bytes words.now) keeper result.1
         × IsNoted (E.writing notes.old) (E.writing notes.new) (codes "too many collections\n")) }
     ensures unread { result.0 ≡ 4 → (source.new ≡ source.old) × (sink.new ≡ sink.old) }
-    ensures overfull { (keyspace : List ℕ) (collections : List (List ℕ)) → RunsOn (map string_bytes words.now) keyspace collections
+    ensures overfull { (command : Cmd) (keyspace : List ℕ) (collections : List (List ℕ)) → AsksFor (map string_bytes words.now) command keyspace collections
         → ForSome (K.tables keeper) (λ t. 100 < would_live collections t → (result.0 ≡ 4) ⊎ (result.0 ≡ 9)) }
 
-    // So many bytes were read; the replies to the requests of all whole lines among them stand.
-    ensures too_long { result.0 ≡ 5 → Runs K.tables K.failed (map string_bytes words.now) keeper result.1 seed.now (C.times clock.old)
-        (λ Served. ServesWholeLines Served (S.reading source.old) (S.reading source.new) (W.writing sink.old) (W.writing sink.new) (2 ^ 40)) }
+    // So many bytes were read; the replies to the requests of all whole lines among them stand. Of a script nothing is served then.
+    ensures too_long { result.0 ≡ 5 → Ends K.tables K.failed (map string_bytes words.now) keeper result.1 seed.now (C.times clock.old) (W.writing sink.old) (W.writing sink.new)
+        (λ Served. ServesWholeLines Served (S.reading source.old) (S.reading source.new) (W.writing sink.old) (W.writing sink.new) (2 ^ 40))
+        (λ Played Unplayed. HasRead (S.reading source.old) (S.reading source.new) (2 ^ 40) × Unplayed 0) }
 
-    // A line isn't of its form; the replies to the requests of all lines before it stand.
+    // A line isn't of its form; the replies to the requests of all lines before it stand. Of a script nothing is served then.
     ensures wrong_line { result.0 ≡ 6 → (line : ℕ) × IsNoted (E.writing notes.old) (E.writing notes.new) (line_note line)
-        × Runs K.tables K.failed (map string_bytes words.now) keeper result.1 seed.now (C.times clock.old)
-        (λ Served. ServesBefore Served (S.reading source.old) (S.reading source.new) (W.writing sink.old) (W.writing sink.new) line) }
+        × Ends K.tables K.failed (map string_bytes words.now) keeper result.1 seed.now (C.times clock.old) (W.writing sink.old) (W.writing sink.new)
+        (λ Served. ServesBefore Served (S.reading source.old) (S.reading source.new) (W.writing sink.old) (W.writing sink.new) line)
+        (λ Played Unplayed. ReadsWrong (S.reading source.old) (S.reading source.new) line × Unplayed 0) }
 
-    // Memory ran out outside of a request: before anything was read or written, and the keeper has perhaps some of the missing collections more; or the replies to some first requests stand, of the last perhaps a front.
+    // Memory ran out outside of a request: before anything was read or written, and the keeper has perhaps some of the missing collections more; or the replies to some first requests stand, of the last perhaps a front; or, of a script, so, or sessions were opened alone.
     ensures no_memory { result.0 ≡ 9 → ((source.new ≡ source.old) × (sink.new ≡ sink.old) × ServesNone K.tables K.failed (map string_bytes words.now) keeper result.1)
-        ⊎ Runs K.tables K.failed (map string_bytes words.now) keeper result.1 seed.now (C.times clock.old)
-        (λ Served. ServesFirst Served (S.reading source.old) (S.reading source.new) (W.writing sink.old) (W.writing sink.new)) }
+        ⊎ Ends K.tables K.failed (map string_bytes words.now) keeper result.1 seed.now (C.times clock.old) (W.writing sink.old) (W.writing sink.new)
+        (λ Served. ServesFirst Served (S.reading source.old) (S.reading source.new) (W.writing sink.old) (W.writing sink.new))
+        (λ Played Unplayed. ((count : ℕ) × Unplayed count) ⊎ ((count : ℕ) × PlaysInput Played (S.reading source.old) (S.reading source.new) (W.writing sink.old) (W.writing sink.new) (take count))) }
 
     ensures statuses { IsTrue (is_status result.0) }
     ensures noted { (result.0 ≡ 4 → ⊥) → (result.0 ≡ 6 → ⊥) → IsNoted (E.writing notes.old) (E.writing notes.new) (note_at result.0) }
@@ -174,6 +186,8 @@ pub fn dapi<S: Source, W: Sink, E: Sink, K: Keeper, C: Clock>(
             a_session_alone_loses_nothing();
             a_count_that_stays_has_no_fault();
             a_refused_request_blames_itself();
+            no_change_is_lost();
+            a_script_has_no_wrong_line();
             run_store(
                 alloc,
                 job.command,
