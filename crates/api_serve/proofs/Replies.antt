@@ -53,7 +53,7 @@ module _ {X : Type 0} (f : X → List Reply) (xs : List X) (i : ℕ) (x : X) (pl
       ∙ append_assoc (answers_from 0 (map f (take (i + 1) xs))) (answers_from (0 + length (map f (take (i + 1) xs))) (map f (drop (i + 1) xs))) (writes_line writes)
       ∙ ap (λ bytes. bytes ++ (answers_from (0 + length (map f (take (i + 1) xs))) (map f (drop (i + 1) xs)) ++ writes_line writes)) (sym answers_from-more)
 
--- the replies of exchanges
+-- the replies of exchanges, by their sessions
 pub replies_are_answers : (place : ℕ) (all : List (List Exchange)) → replies_from place all ≡ answers_from place (map (λ xs. map (λ x. x.reply) xs) all)
 replies_are_answers place [] = refl
 replies_are_answers place (xs ∷ all) =
