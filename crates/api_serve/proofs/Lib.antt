@@ -9,6 +9,9 @@ pub mod Whole
 pub mod Opened
 pub mod Contests
 pub mod Playing
+pub mod Written
+pub mod Input
+pub mod Replies
 pub mod Turns
 pub mod Played
 pub mod Changes

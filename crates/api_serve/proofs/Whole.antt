@@ -4,7 +4,6 @@ use Rattle.std.proofs.lemmas.List.{length-take}
 use Rattle.std.proofs.Math.Seq.{take-append-add}
 use Rattle.std.specs.Option.{ForSome}
 use Rattle.outside_io.specs.Told.{Reading, Writing, Takes, Takes-append, CountsGrow, then_left, taken_then, then_left-append, taken_then-nil, then_left-nil, then_left-all}
-use Rattle.outside_io.specs.Causes.{Rose, Rose-earlier}
 use Rattle.api_serve.specs.Session.{Service, Stage}
 use Rattle.api_serve.specs.Separated.{is_free_of}
 use Rattle.api_serve.specs.Lines.{ended_lines, Splits, HasLines, last_line}
@@ -19,15 +18,12 @@ use Rattle.api_serve.specs.declared.run.RunHow.{RunHow}
 use Rattle.api_serve.specs.declared.run.RunHow.TheVariants.{Done, ReadFault, WriteFault, TooLong, WrongLine, NoMemory}
 use Rattle.api_serve.specs.declared.run.Run.{Run}
 use Rattle.api_serve.proofs.Cuts.{take_all}
+use Rattle.api_serve.proofs.Input.{all_read, more_read}
+use Rattle.api_serve.proofs.Written.{fault_earlier}
 use Rattle.api_serve.proofs.Served.{Serves-none, Serves-append, lines_right, Splits-append, all_free}
 use Rattle.api_serve.proofs.HasLines.{wrong_behind, right_append, text_behind, begins_behind, last_is}
 
 -- ---- writes, one behind another
-
-fault_earlier : (before now after : Writing) (fault_before fault_after : ℕ) (nothing : Bool) → CountsGrow before now → IsWriteFault now after fault_before fault_after nothing
-    → IsWriteFault before after fault_before fault_after nothing
-fault_earlier before now after b a false grows h = (omega (arith, grows.0, h.0), h.1, h.2)
-fault_earlier before now after b a true grows h = (omega (arith, grows.0, h.0), Rose-earlier before.ended now.ended after.ended grows.1 h.1, h.2)
 
 -- a front of what was written later, behind all that was written earlier
 takes_cut : (before now after : Writing) (output more : List ℕ) (n : ℕ) → Takes before output now → Takes now (take n more) after → Takes before (take (length output + n) (output ++ more)) after
@@ -85,11 +81,11 @@ module _ (service : Service) (start : Stage) (from to : Reading) (before now : W
   count_fits = omega (arith, lines_fit at.lines, ap length at.split.text, length-append (ended_lines at.lines) run.lines, at.counted, at.size)
 
   pub at_read : (count : ℕ) × (count ≤ 2 ^ 40) × HasRead from to count
-  at_read = (length at.input, omega (arith, at.size), (at.input, refl, at.read))
+  at_read = all_read from to to at.input unread at.read at.size refl
 
   -- what is left stays where nothing is read
   pub at_same : (to' : Reading) → to'.left ≡ to.left → (count : ℕ) × (count ≤ 2 ^ 40) × HasRead from to' count
-  at_same to' same = (length at.input, omega (arith, at.size), (at.input, refl, at.read ∙ ap (then_left at.input) (sym same)))
+  at_same to' same = all_read from to to' at.input unread at.read at.size same
 
   whole_lines : (to' : Reading) → to'.left ≡ to.left → ServesWholeLines (SaidOf service start stage) from to' before now (length at.input)
   whole_lines to' same = record {
@@ -115,7 +111,7 @@ module _ (service : Service) (start : Stage) (from to : Reading) (before now : W
     read_more = at.read ∙ ap (then_left at.input) read ∙ sym (then_left-append at.input piece to'.left)
 
     pub at_more : length piece ≤ unread → (count : ℕ) × (count ≤ 2 ^ 40) × HasRead from to' count
-    at_more fits = (length (at.input ++ piece), omega (arith, length-append at.input piece, at.size), (at.input ++ piece, refl, read_more))
+    at_more fits = more_read from to to' at.input unread at.read at.size piece read fits
 
     pub at_piece : (n : ℕ) (later : Stage) (new : Run) (after : Writing) → n ≡ length piece → n ≤ unread → ServesPiece service stage (fed run piece) later now after new
         → IsAt service start from to' before after later new (unread - n)
@@ -258,15 +254,8 @@ module _ (service : Service) (start : Stage) (from to : Reading) (before now : W
 pub piece_size : (n : ℕ) (buffer : List ℕ) → n ≤ length buffer → n ≡ length (take n buffer)
 piece_size n buffer h = omega (arith, length-take n buffer)
 
--- a read failed, behind reads that didn't lower the count
-pub read_fault : (f₀ f₁ f₂ b a : ℕ) → f₀ ≤ f₁ → b ≡ f₁ → a ≡ f₂ → Rose f₁ f₂ → (f₀ ≤ b) × Rose b a × (a ≡ f₂)
-read_fault f₀ f₁ f₂ b a grows before after rose = (omega (arith, grows, before), omega (arith, rose, before, after), after)
-
 pub grown : (a b c : ℕ) → a ≤ b → b ≤ c → a ≤ c
 grown a b c p q = omega (arith, p, q)
-
-pub front_fits : (n most : ℕ) (buffer : List ℕ) → n ≤ most → length (take n buffer) ≤ most
-front_fits n most buffer h = omega (arith, length-take n buffer, h)
 
 -- ---- the same history, by another name of its start
 

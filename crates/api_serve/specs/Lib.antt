@@ -14,6 +14,7 @@ pub mod Sent
 pub mod Script
 pub mod Play
 pub mod Mix
+pub mod Mixing
 pub mod Scripted
 pub mod Players
 pub mod Laws

@@ -1,9 +1,12 @@
 //! A script that is read whole, and then played.
-ghost use Rattle.std.specs.Prelude.{◌≡◌, ◌<◌, ◌≤◌, ◌^◌, ℕ, [], IfOk, IfErr, OnErr, length, map, vec_capacity};
+ghost use Rattle.std.specs.Prelude.{◌≡◌, ◌<◌, ◌≤◌, ◌^◌, ◌++◌, ℕ, [], IfOk, IfErr, OnOk, OnErr, length, map, decimal, vec_capacity};
+ghost use Rattle.std.specs.Option.{ForSome};
 ghost use Rattle.std.specs.List.{AllByRecursion as Each};
+ghost use Rattle.outside_io.specs.Told.{Takes, CountsGrow};
 ghost use Rattle.store_core.specs.Store.{IsLawful, SameBase};
-ghost use Rattle.api_serve.specs.Run.{HasRead};
-ghost use Rattle.api_serve.specs.Mix.{EndsMix, Plays, IsUnplayed, OpensAlone};
+ghost use Rattle.api_serve.specs.Run.{Reads, HasRead};
+ghost use Rattle.api_serve.specs.Mix.{EndsMix, Plays, IsUnplayed, OpensAlone, writes_line};
+ghost use Rattle.api_serve.specs.Mixing.{answer_line, answers_at, output_of, IsReadStop, IsWriteStop, WritesBut};
 ghost use Rattle.api_serve.specs.Mixed.{ReadsScript, IsScriptStop, PlaysScript, asked_in};
 ghost use Rattle.api_serve.specs.Players.{scene_of};
 
@@ -24,7 +27,12 @@ use store_core::Store;
 const FULL: usize = 65_536;
 
 // Reads the whole input.
-fn read_input<S: Source>(alloc: Global, source: &mut S) -> Result<Vec<u8>, RunHow> {
+fn read_input<S: Source>(alloc: Global, source: &mut S) -> Result<Vec<u8>, RunHow>
+    ensures read { IfOk result (λ input. Reads (S.reading source.old) input.items (S.reading source.new)
+        × (length input.items < 2 ^ 40) × ForSome (S.reading source.new).left (λ rest. rest ≡ [])) }
+    ensures stopped { IfErr result (IsReadStop (S.reading source.old) (S.reading source.new)) }
+    ensures bounded { (count : ℕ) × (count ≤ 2 ^ 40) × HasRead (S.reading source.old) (S.reading source.new) count }
+{
     let Ok(mut buffer) = zeros(alloc, PIECE) else {
         return Err(RunHow::NoMemory);
     };
@@ -51,7 +59,9 @@ fn read_input<S: Source>(alloc: Global, source: &mut S) -> Result<Vec<u8>, RunHo
 }
 
 // Appends a number, in decimal.
-fn add_number(number: u64, out: &mut Vec<u8>) -> Result<(), NoMemory> {
+fn add_number(number: u64, out: &mut Vec<u8>) -> Result<(), NoMemory>
+    ensures { OnOk result (out.new.items ≡ out.old.items ++ decimal number) }
+{
     let mut buffer = itoa::Buffer::new();
     match out.extend_from_slice(buffer.format(number).as_bytes()) {
         Ok(()) => Ok(()),
@@ -60,7 +70,9 @@ fn add_number(number: u64, out: &mut Vec<u8>) -> Result<(), NoMemory> {
 }
 
 // Appends bytes.
-fn add_bytes(bytes: &[u8], out: &mut Vec<u8>) -> Result<(), NoMemory> {
+fn add_bytes(bytes: &[u8], out: &mut Vec<u8>) -> Result<(), NoMemory>
+    ensures { OnOk result (out.new.items ≡ out.old.items ++ bytes.now) }
+{
     match out.extend_from_slice(bytes) {
         Ok(()) => Ok(()),
         Err(_) => Err(NoMemory),
@@ -68,7 +80,9 @@ fn add_bytes(bytes: &[u8], out: &mut Vec<u8>) -> Result<(), NoMemory> {
 }
 
 // Appends a reply of the session of this number: the number, a space, the reply, and an LF.
-fn add_reply(alloc: Global, number: u64, reply: &Reply, out: &mut Vec<u8>) -> Result<(), NoMemory> {
+fn add_reply(alloc: Global, number: u64, reply: &Reply, out: &mut Vec<u8>) -> Result<(), NoMemory>
+    ensures { OnOk result (out.new.items ≡ out.old.items ++ answer_line number reply.now) }
+{
     add_number(number, out)?;
     add_bytes(b" ", out)?;
     if print_reply(alloc, reply, out).is_err() {
@@ -78,10 +92,33 @@ fn add_reply(alloc: Global, number: u64, reply: &Reply, out: &mut Vec<u8>) -> Re
 }
 
 // Appends the number of writes.
-fn add_writes(writes: u64, out: &mut Vec<u8>) -> Result<(), NoMemory> {
+fn add_writes(writes: u64, out: &mut Vec<u8>) -> Result<(), NoMemory>
+    ensures { OnOk result (out.new.items ≡ out.old.items ++ writes_line writes) }
+{
     add_bytes(b"writes ", out)?;
     add_number(writes, out)?;
     add_bytes(b"\n", out)
+}
+
+// Writes a reply of the session of this number, but for what waits in `out`.
+fn write_reply<W: Sink>(
+    alloc: Global,
+    sink: &mut W,
+    number: u64,
+    reply: &Reply,
+    out: &mut Vec<u8>,
+) -> Result<(), RunHow>
+    ensures written { OnOk result (WritesBut out.new.items (W.writing sink.old) (out.old.items ++ answer_line number reply.now) (W.writing sink.new)) }
+    ensures cut { IfErr result (IsWriteStop (W.writing sink.old) (W.writing sink.new) (out.old.items ++ answer_line number reply.now)) }
+    ensures grows { CountsGrow (W.writing sink.old) (W.writing sink.new) }
+{
+    let Ok(()) = add_reply(alloc, number, reply, out) else {
+        return Err(RunHow::NoMemory);
+    };
+    if out.len() < FULL {
+        return Ok(());
+    }
+    send(sink, out)
 }
 
 // Writes the replies of one session, but for what waits in `out`.
@@ -91,16 +128,27 @@ fn write_session<W: Sink>(
     number: u64,
     replies: &[Reply],
     out: &mut Vec<u8>,
-) -> Result<(), RunHow> {
+) -> Result<(), RunHow>
+    ensures written { OnOk result (WritesBut out.new.items (W.writing sink.old) (out.old.items ++ answers_at number replies.now) (W.writing sink.new)) }
+    ensures cut { IfErr result (IsWriteStop (W.writing sink.old) (W.writing sink.new) (out.old.items ++ answers_at number replies.now)) }
+    ensures grows { CountsGrow (W.writing sink.old) (W.writing sink.new) }
+{
     'replies: for reply in replies {
-        let Ok(()) = add_reply(alloc, number, reply, out) else {
-            return Err(RunHow::NoMemory);
-        };
-        if out.len() >= FULL {
-            send(sink, out)?;
-        }
+        write_reply(alloc, sink, number, reply, out)?;
     }
     Ok(())
+}
+
+// Writes what waits in `out`, and the number of writes behind it.
+fn write_end<W: Sink>(sink: &mut W, writes: u64, out: &mut Vec<u8>) -> Result<(), RunHow>
+    ensures written { OnOk result (Takes (W.writing sink.old) (out.old.items ++ writes_line writes) (W.writing sink.new)) }
+    ensures cut { IfErr result (IsWriteStop (W.writing sink.old) (W.writing sink.new) (out.old.items ++ writes_line writes)) }
+    ensures grows { CountsGrow (W.writing sink.old) (W.writing sink.new) }
+{
+    let Ok(()) = add_writes(writes, out) else {
+        return Err(RunHow::NoMemory);
+    };
+    send(sink, out)
 }
 
 // Writes the replies, session by session, and the number of writes.
@@ -109,17 +157,18 @@ fn write_all_replies<W: Sink>(
     sink: &mut W,
     replies: &[Vec<Reply>],
     writes: u64,
-) -> Result<(), RunHow> {
+) -> Result<(), RunHow>
+    ensures written { OnOk result (Takes (W.writing sink.old) (output_of (map (λ list. list.items) replies.now) writes) (W.writing sink.new)) }
+    ensures cut { IfErr result (IsWriteStop (W.writing sink.old) (W.writing sink.new) (output_of (map (λ list. list.items) replies.now) writes)) }
+    ensures grows { CountsGrow (W.writing sink.old) (W.writing sink.new) }
+{
     let mut out = Vec::new(alloc);
     let mut number = 0;
     'sessions: for list in replies {
         write_session(alloc, sink, number, list.as_slice(), &mut out)?;
         number += 1;
     }
-    let Ok(()) = add_writes(writes, &mut out) else {
-        return Err(RunHow::NoMemory);
-    };
-    send(sink, &mut out)
+    write_end(sink, writes, &mut out)
 }
 
 // Nothing is served.

@@ -1,8 +1,9 @@
 use Rattle.std.proofs.Common.{take, refl, ap, arith, Err}
 use Rattle.outside_io.specs.Told.{CountsGrow-then}
 use Rattle.outside_io.specs.declared.fault.IoFault.{IoFault}
+use Rattle.api_serve.proofs.Input.{read_fault, front_fits}
 use Rattle.api_serve.proofs.Waits.{same_base}
-use Rattle.api_serve.proofs.Whole.{at_start, at_piece, at_read, at_same, at_more, count_fits, ends_piece, ends_finish, ends_reading, piece_size, read_fault, grown, front_fits, finish_at, piece_at, end_at}
+use Rattle.api_serve.proofs.Whole.{at_start, at_piece, at_read, at_same, at_more, count_fits, ends_piece, ends_finish, ends_reading, piece_size, grown, finish_at, piece_at, end_at}
 use Rattle.api_serve.proofs.serve.serve_pieces.Goals as goal
 
 pub pieces-init : goal.pieces-init
