@@ -184,16 +184,21 @@ module _ (laws : Laws) where
       let m = moved start keyspace requests stream H H' low high held held' task rest p.served busy_is s rises journal in
       subst (λ k. Reaches start keyspace requests stream k 1 p held' (scene_of H low times) (scene_of H' high times')) made.session_is (record {
         now = m.now;
-        works = (m.now, scene_of H' high times', record {
-          from = x;
-          to = m.to;
-          taken = inr (record { free = present; request = request; next = next ∙ ap (λ l. request ∷ l) (sym m.left); asked = made.asked; moment = λ ts told. made.moment_is ∙ gives ts told; clock = clock; trace = made.trace });
-          later = m.later;
-          adds = m.adds;
-          faults = m.faults;
-          item = m.item;
-          then = m.then;
-        }, (refl, refl));
+        works = (
+          m.now,
+          scene_of H' high times',
+          record {
+            from = x;
+            to = m.to;
+            taken = inr (record { free = present; request = request; next = next ∙ ap (λ l. request ∷ l) (sym m.left); asked = made.asked; moment = λ ts told. made.moment_is ∙ gives ts told; clock = clock; trace = made.trace });
+            later = m.later;
+            adds = m.adds;
+            faults = m.faults;
+            item = m.item;
+            then = m.then;
+          },
+          (refl, refl),
+        );
         is_held = m.is_held;
         session = λ base told was_one. m.session base told (laws.begins base H task.session p.served x made.trace (cut_answered start base H task told (made.stands start H)) (subst (λ (q : Player). IsSession base H task.session (begun_by q)) p_is was_one));
       })
@@ -210,16 +215,21 @@ module _ (laws : Laws) where
       let x : Exchange = exchange_of a.asking [] answered in
       let next : p.left ≡ request ∷ rest = sym is.left ∙ was in record {
         now = free rest (p.served ++ x ∷ []);
-        works = (free rest (p.served ++ x ∷ []), scene_of H low times', record {
-          from = x;
-          to = x;
-          taken = inr (record { free = present; request = request; next = next; asked = a.asked; moment = λ ts told. a.moment_is ∙ gives ts told; clock = clock; trace = a.trace });
-          later = record { asking = refl; moment = refl; ids = refl };
-          adds = inl (refl, refl);
-          faults = omega arith;
-          item = inr (refl, a.cut);
-          then = inr (refl, refl);
-        }, (refl, refl));
+        works = (
+          free rest (p.served ++ x ∷ []),
+          scene_of H low times',
+          record {
+            from = x;
+            to = x;
+            taken = inr (record { free = present; request = request; next = next; asked = a.asked; moment = λ ts told. a.moment_is ∙ gives ts told; clock = clock; trace = a.trace });
+            later = record { asking = refl; moment = refl; ids = refl };
+            adds = inl (refl, refl);
+            faults = omega arith;
+            item = inr (refl, a.cut);
+            then = inr (refl, refl);
+          },
+          (refl, refl),
+        );
         is_held = record {
           left = now;
           replies = replies ∙ ap (λ rs. rs ++ answered.reply ∷ []) free_is.replies ∙ sym (map-append (λ (y : Exchange). y.reply) p.served (x ∷ []));

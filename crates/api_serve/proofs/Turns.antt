@@ -211,17 +211,17 @@ module _ (laws : Laws) where
       → TakesTurns start keyspace (i ∷ []) held (set held i h') (scene_of H low times) (scene_of H' high times')
   takes_turn start keyspace H H' more low high times times' i held h h' at same once longer own journal = ⊎_elim
       (λ e. subst (λ (z : List Held). TakesTurns start keyspace (i ∷ []) held z (scene_of H low times) (scene_of H' high times')) (sym (ap (set held i) e.1 ∙ same_set held i h at))
-          (subst (λ (z : Scene). TakesTurns start keyspace (i ∷ []) held held (scene_of H low times) z) (sym e.2)
-          (λ seed base first requests players standing.
-              let pl = place laws start keyspace seed base first i requests held players h standing.are_held at in record {
-                now = players;
-                steps = (
-                  record { scene = scene_of H low times; players = players },
-                  record { before = pl.player; after = pl.player; at = pl.at; players = sym (same_set players i pl.player pl.at); step = inl ((sym pl.is.left ∙ e.0.0, pl.is.present ∙ ap (option_map cut_off) e.0.1), refl) },
-                  refl,
-                );
-                standing = standing;
-              })))
+      (subst (λ (z : Scene). TakesTurns start keyspace (i ∷ []) held held (scene_of H low times) z) (sym e.2)
+      (λ seed base first requests players standing.
+      let pl = place laws start keyspace seed base first i requests held players h standing.are_held at in record {
+        now = players;
+        steps = (
+          record { scene = scene_of H low times; players = players },
+          record { before = pl.player; after = pl.player; at = pl.at; players = sym (same_set players i pl.player pl.at); step = inl ((sym pl.is.left ∙ e.0.0, pl.is.present ∙ ap (option_map cut_off) e.0.1), refl) },
+          refl,
+        );
+        standing = standing;
+      })))
       (λ f. takes_steps start keyspace H H' more low high times times' i 1 held h h' at same f longer own journal)
       once
 
@@ -307,7 +307,7 @@ module _ (laws : Laws) {K : Type 0} (failed : K → ℕ) (keyspace : List ℕ) (
       let now = turned_on (turns ++ one_by_one 0 so.counts) s t times times' held i h g so.turned at same fit grown base lawful steps.0 steps.1 in
       let place : i ≡ 0 + length so.counts = (let count = so.count_is in omega (arith, count)) in
       let more : (turns ++ one_by_one 0 so.counts) ++ replicate steps.0 i ≡ turns ++ one_by_one 0 (so.counts ++ steps.0 ∷ []) =
-          append_assoc turns (one_by_one 0 so.counts) (replicate steps.0 i) ∙ ap (λ l. turns ++ l) (ap (λ n. one_by_one 0 so.counts ++ replicate steps.0 n) place ∙ sym (one_more 0 steps.0 so.counts)) in
+      append_assoc turns (one_by_one 0 so.counts) (replicate steps.0 i) ∙ ap (λ l. turns ++ l) (ap (λ n. one_by_one 0 so.counts ++ replicate steps.0 n) place ∙ sym (one_more 0 steps.0 so.counts)) in
       let next : suc i ≡ i + 1 = omega arith in record {
         counts = so.counts ++ steps.0 ∷ [];
         count_is = length-append so.counts (steps.0 ∷ []) ∙ ap (λ n. n + 1) so.count_is;
