@@ -9,3 +9,5 @@ pub mod Whole
 pub mod Opened
 pub mod Contests
 pub mod Playing
+pub mod Turns
+pub mod Scripts
