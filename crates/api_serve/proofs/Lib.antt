@@ -16,3 +16,5 @@ pub mod Turns
 pub mod Played
 pub mod Changes
 pub mod MixEnds
+pub mod Numerals
+pub mod Scripts

@@ -1,5 +1,5 @@
 -- The script of a mix: what its sessions ask, and in which order they take their steps.
-use Rattle.std.specs.Prelude.{◌≡◌, ◌≢◌, ◌⊎◌, ℕ, ◌+◌, ◌<◌, ◌≤◌, ⊤, List, [], ◌∷◌, ◌++◌, ◌==◌, if◌then◌else◌, length, map, codes, decimal, IsTrue}
+use Rattle.std.specs.Prelude.{◌≡◌, ◌≢◌, ◌⊎◌, ℕ, ◌+◌, ◌<◌, ◌≤◌, ⊤, List, [], ◌∷◌, ◌++◌, ◌==◌, if◌then◌else◌, length, codes, decimal, IsTrue}
 use Rattle.std.specs.List.{flat_map, AllByRecursion as Each}
 use Rattle.reply_env.specs.declared.request.Request.{Request}
 use Rattle.api_serve.specs.Request.{Parts, Spells, parts_of, is_skipped}

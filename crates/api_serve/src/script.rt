@@ -1,8 +1,10 @@
 //! The script of a mix: what each of its sessions asks, and in which order they take their steps.
-ghost use Rattle.std.specs.Prelude.{◌≡◌, ◌++◌, ◌∷◌, ◌<◌, ◌≤◌, ℕ, List, [], None, Err, IfSome, MatchOption, OnOk, codes, decimal, IsTrue};
+ghost use Rattle.std.specs.Prelude.{◌≡◌, ◌++◌, ◌∷◌, ◌<◌, ◌≤◌, ◌^◌, ℕ, List, [], None, Err, IfOk, IfErr, IfSome, MatchOption, OnOk, codes, decimal, length, map, IsTrue, false};
+ghost use Rattle.std.specs.List.{AllByRecursion as Each};
+ghost use Rattle.api_serve.specs.Separated.{is_free_of};
 ghost use Rattle.api_serve.specs.Lines.{HasLines};
-ghost use Rattle.api_serve.specs.Script.{AreNamed};
-ghost use Rattle.api_serve.specs.Scripted.{IsFirstLine, IsAskOf, AreTurns};
+ghost use Rattle.api_serve.specs.Script.{NamesNext, AreNamed, AreScript, IsOfScript};
+ghost use Rattle.api_serve.specs.Scripted.{IsFirstLine, IsAskOf, AreTurns, HasOneMore, Tell, IsWrongInput};
 
 use crate::bytes::cut;
 use crate::one::LineStop;
@@ -20,12 +22,12 @@ pub struct Script {
     pub turns: Vec<u8>,
 }
 
-// The session's number that these bytes are: 0 to 15, in decimal.
-fn number_of(bytes: &[u8]) -> Option<u8>
-    ensures { MatchOption result ((k : ℕ) → k < 16 → bytes.now ≡ decimal k → ⊥) (λ k. (k < 16) × (bytes.now ≡ decimal k)) }
+// The number below this one that these bytes are, in decimal.
+fn number_of(bytes: &[u8], end: u8) -> Option<u8>
+    ensures { MatchOption result ((k : ℕ) → k < end → bytes.now ≡ decimal k → ⊥) (λ k. (k < end) × (bytes.now ≡ decimal k)) }
 {
     let mut buffer = itoa::Buffer::new();
-    'numbers: for number in 0..16u8 {
+    'numbers: for number in 0..end {
         if buffer.format(number).as_bytes() == bytes {
             return Some(number);
         }
@@ -44,9 +46,16 @@ fn after_word<'a>(line: &'a [u8], word: &[u8]) -> Option<&'a [u8]>
 fn ask_in(line: &[u8]) -> Option<(u8, &[u8])>
     ensures { MatchOption result ((number : ℕ) (rest : List ℕ) → IsAskOf line.now number rest → ⊥) (λ p. IsAskOf line.now p.0 p.1.now) }
 {
-    let rest = after_word(line, b"ask ".as_slice())?;
-    let (number, rest) = cut(rest, b' ')?;
-    Some((number_of(number)?, rest))
+    let Some(behind) = after_word(line, b"ask ".as_slice()) else {
+        return None;
+    };
+    let Some((front, rest)) = cut(behind, b' ') else {
+        return None;
+    };
+    let Some(number) = number_of(front, 16) else {
+        return None;
+    };
+    Some((number, rest))
 }
 
 // The first line of what is left of an input, without its LF, and what is left behind it.
@@ -63,19 +72,28 @@ fn next_line(input: &[u8]) -> Option<(&[u8], &[u8])>
     }
 }
 
+// Whether a line asks by the session behind so many.
+fn names_next(line: &[u8], named: u8) -> bool
+    ensures yes { IsTrue result → NamesNext named line.now }
+    ensures no { result ≡ false → NamesNext named line.now → ⊥ }
+{
+    match ask_in(line) {
+        Some((number, asked)) => number == named && asked_in(asked).is_some(),
+        None => false,
+    }
+}
+
 // How many sessions the `ask` lines of an input name: each names one that an earlier one names, or the next.
 fn named_in(input: &[u8]) -> u8
-    ensures named { (lines : List (List ℕ)) → HasLines input.now lines → AreNamed 0 lines result }
+    ensures named { (lines : List (List ℕ)) × HasLines input.now lines × AreNamed 0 lines result }
     ensures few { result ≤ 16 }
 {
     let mut named = 0;
     let mut rest = input;
     'lines: while let Some((line, behind)) = next_line(rest) {
         rest = behind;
-        if let Some((number, asked)) = ask_in(line) {
-            if number == named && asked_in(asked).is_some() {
-                named += 1;
-            }
+        if names_next(line, named) {
+            named += 1;
         }
     }
     named
@@ -87,7 +105,10 @@ fn add_request(
     number: u8,
     request: Request,
     requests: &mut Vec<VecDeque<Request>>,
-) -> Result<(), NoMemory> {
+) -> Result<(), NoMemory>
+    requires { number ≤ length requests.old.items }
+    ensures { OnOk result (HasOneMore number request (map (λ q. q.items) requests.old.items) (map (λ q. q.items) requests.new.items)) }
+{
     let at = usize::from(number);
     if at == requests.len() {
         let Ok(()) = requests.push(VecDeque::new(alloc)) else {
@@ -100,6 +121,17 @@ fn add_request(
     }
 }
 
+// What stands before the first space, and behind it, where there is one.
+fn before_space(bytes: &[u8]) -> (&[u8], Option<&[u8]>)
+    ensures free { IsTrue (is_free_of 32 result.0.now) }
+    ensures text { MatchOption result.1 (bytes.now ≡ result.0.now) (λ behind. bytes.now ≡ result.0.now ++ 32 ∷ behind.now) }
+{
+    match cut(bytes, b' ') {
+        Some((front, behind)) => (front, Some(behind)),
+        None => (bytes, None),
+    }
+}
+
 // Adds the numbers of a `step` line, which stand behind its first word, each behind one space.
 fn add_turns(numbers: &[u8], named: u8, turns: &mut Vec<u8>) -> Result<(), LineStop>
     ensures added { OnOk result ((given : List ℕ) × AreTurns numbers.now named given × (turns.new.items ≡ turns.old.items ++ given)) }
@@ -107,17 +139,12 @@ fn add_turns(numbers: &[u8], named: u8, turns: &mut Vec<u8>) -> Result<(), LineS
 {
     let mut rest = numbers;
     'numbers: loop {
-        let (number, behind) = match cut(rest, b' ') {
-            Some((number, behind)) => (number, Some(behind)),
-            None => (rest, None),
+        let (number, behind) = before_space(rest);
+        let Some(turn) = number_of(number, named) else {
+            return Err(LineStop::Wrong);
         };
-        match number_of(number) {
-            Some(number) if number < named => {
-                if turns.push(number).is_err() {
-                    return Err(LineStop::NoMemory);
-                }
-            }
-            _ => return Err(LineStop::Wrong),
+        if turns.push(turn).is_err() {
+            return Err(LineStop::NoMemory);
         }
         match behind {
             Some(behind) => rest = behind,
@@ -127,7 +154,11 @@ fn add_turns(numbers: &[u8], named: u8, turns: &mut Vec<u8>) -> Result<(), LineS
 }
 
 // Adds what a line says, where its input names so many sessions.
-fn add_line(alloc: Global, line: &[u8], named: u8, script: &mut Script) -> Result<(), LineStop> {
+fn add_line(alloc: Global, line: &[u8], named: u8, script: &mut Script) -> Result<(), LineStop>
+    requires { named ≤ 16 }
+    ensures told { OnOk result (Tell named (line.now ∷ []) (map (λ q. q.items) script.old.requests.items) (map (λ q. q.items) script.new.requests.items) script.old.turns.items script.new.turns.items) }
+    ensures wrong { result ≡ Err LineStop.Wrong → IsOfScript named (length script.old.requests.items) line.now → ⊥ }
+{
     if is_skipped(line) {
         return Ok(());
     }
@@ -152,7 +183,11 @@ fn add_line(alloc: Global, line: &[u8], named: u8, script: &mut Script) -> Resul
 }
 
 /// The script that an input is, or the number of its first line that isn't of its form.
-pub fn script_of(alloc: Global, input: &[u8]) -> Result<Script, Stop> {
+pub fn script_of(alloc: Global, input: &[u8]) -> Result<Script, Stop>
+    ensures script { IfOk result (λ s. (lines : List (List ℕ)) × HasLines input.now lines × AreScript lines (map (λ q. q.items) s.requests.items) s.turns.items) }
+    ensures within { IfOk result (λ s. Each (λ k. k < length s.requests.items) s.turns.items) }
+    ensures wrong { IfErr result (IsWrongInput input.now) }
+{
     let named = named_in(input);
     let mut script = Script {
         requests: Vec::new(alloc),
