@@ -1,5 +1,5 @@
 -- A session of a play: a step of its task, a request that it begins, and many steps.
-use Rattle.std.proofs.Common.{◌≡◌, ◌≢◌, ◌⊎◌, ⊎_elim, inl, inr, ℕ, ℤ, zero, suc, ◌+◌, ◌<◌, ◌≤◌, List, [], ◌∷◌, ◌++◌, length, map, Option, Some, None, refl, sym, ap, ◌∙◌, subst, append_assoc, arith, vec_capacity}
+use Rattle.std.proofs.Common.{◌≡◌, ◌≢◌, ◌⊎◌, ⊎_elim, inl, inr, ℕ, ℤ, zero, suc, ◌+◌, ◌<◌, ◌≤◌, List, [], ◌∷◌, ◌++◌, length, map, drop, Option, Some, None, refl, sym, ap, ◌∙◌, subst, append_assoc, arith, vec_capacity}
 use Rattle.std.proofs.lemmas.List.{append-nil, map-append, length-append}
 use Rattle.std.specs.Prelude.{IfSome}
 use Rattle.std.specs.Option.{ForSome, option_map}
@@ -16,8 +16,13 @@ use Rattle.store_core.specs.Store.{Stored, SameBase, IsLawful}
 use Rattle.store_core.specs.declared.entry.Entry.{Entry}
 use Rattle.cmd_tasks.specs.Ids.{drawn, after_drawing, stream_of_ids}
 use Rattle.cmd_tasks.specs.Moves.{accepted_by, left}
-use Rattle.cmd_tasks.specs.Session.{Exchange, IsSession, IsAnswered, asks_for, draws_of}
-use Rattle.cmd_tasks.specs.Stands.{StandsOn, IsSame, Adds, AddsItem, ids_of, exchange}
+use Rattle.cmd_tasks.specs.Session.{Exchange, IsSession, IsAnswered, asks_for, draws_of, name_of}
+use Rattle.cmd_tasks.specs.Served.{IsServed}
+use Rattle.cmd_tasks.specs.Stands.{StandsOn, IsSame, Adds, AddsItem, IfDone, ids_of, exchange}
+use Rattle.cmd_tasks.specs.declared.ids.Ids.{Ids}
+use Rattle.cmd_tasks.specs.declared.trace.Trace.{Trace}
+use Rattle.cmd_tasks.specs.declared.work.State.{State as Working}
+use Rattle.cmd_tasks.specs.declared.work.State.TheVariants.{Inserting, Selecting, Listing, Counting, Choosing, Changing, Putting, Paging, Trying, Retrying, PuttingMany, Creating, Dropping, Naming, Unready, Done}
 use Rattle.cmd_tasks.specs.declared.task.Task.{Task}
 use Rattle.cmd_tasks.specs.declared.trace.Item.{Item}
 use Rattle.api_serve.specs.Answered.{IsAskedBy}
@@ -159,12 +164,12 @@ module _ (laws : Laws) where
       })
 
   -- the first step of a task that was made for the next request
-  pub begins_with : (start : Option State) (keyspace : List ℕ) (H H' : List Entry) (low high : ℕ) (times times' : Option (List ℤ)) (held₀ held held' : Held) (moment : ℤ) (request : Request) (rest : List Request) (task : Task)
+  pub begins_with : (start : Option State) (keyspace : List ℕ) (H H' : List Entry) (low high : ℕ) (times times' : Option (List ℤ)) (held₀ held held' : Held) (moment given : ℤ) (request : Request) (rest : List Request) (task : Task) → given ≡ moment
       → held₀.task ≡ None → held₀.left.items ≡ request ∷ rest → held.left.items ≡ rest → held.replies ≡ held₀.replies → held.traces ≡ held₀.traces
-      → MakesTask keyspace held₀.session moment request (stream_of_ids held₀.ids) (stream_of_ids held.ids) task
+      → MakesTask keyspace held₀.session given request (stream_of_ids held₀.ids) (stream_of_ids held.ids) task
       → ForSome times (λ ts. moment ≡ next_time ts) → times' ≡ option_map times_after times
       → StepsTask start H H' low high held held' task → low ≤ high → ForSome start (λ base. IsJournal base H') → StepsOn start keyspace 1 held₀ held' (scene_of H low times) (scene_of H' high times')
-  begins_with start keyspace H H' low high times times' held₀ held held' moment request rest task none was now replies traces made gives clock s rises journal requests stream p is =
+  begins_with start keyspace H H' low high times times' held₀ held held' moment given request rest task same none was now replies traces made gives clock s rises journal requests stream p is =
       let present : p.present ≡ None = is.present ∙ ap (option_map cut_off) none in
       let p_is : p ≡ free p.left p.served = λ i. record { left = p.left; served = p.served; present = present i } in
       let free_is : IsHeld keyspace requests stream held₀ (free p.left p.served) = subst (IsHeld keyspace requests stream held₀) p_is is in
@@ -190,7 +195,7 @@ module _ (laws : Laws) where
           record {
             from = x;
             to = m.to;
-            taken = inr (record { free = present; request = request; next = next ∙ ap (λ l. request ∷ l) (sym m.left); asked = made.asked; moment = λ ts told. made.moment_is ∙ gives ts told; clock = clock; trace = made.trace });
+            taken = inr (record { free = present; request = request; next = next ∙ ap (λ l. request ∷ l) (sym m.left); asked = made.asked; moment = λ ts told. made.moment_is ∙ same ∙ gives ts told; clock = clock; trace = made.trace });
             later = m.later;
             adds = m.adds;
             faults = m.faults;
@@ -204,11 +209,11 @@ module _ (laws : Laws) where
       })
 
   -- the one step of a request that is answered at once
-  pub answers_at_once : (start : Option State) (keyspace : List ℕ) (H : List Entry) (low : ℕ) (times times' : Option (List ℤ)) (held₀ held' : Held) (moment : ℤ) (request : Request) (rest : List Request) (answered : Answered)
+  pub answers_at_once : (start : Option State) (keyspace : List ℕ) (H : List Entry) (low : ℕ) (times times' : Option (List ℤ)) (held₀ held' : Held) (moment given : ℤ) (request : Request) (rest : List Request) (answered : Answered) (ids : Ids) → given ≡ moment → held'.ids ≡ ids
       → held₀.task ≡ None → held₀.left.items ≡ request ∷ rest → held'.left.items ≡ rest → held'.task ≡ None → held'.replies.items ≡ held₀.replies.items ++ answered.reply ∷ [] → held'.traces.items ≡ held₀.traces.items ++ answered.trace ∷ []
-      → AnswersAtOnce keyspace moment request (stream_of_ids held₀.ids) (stream_of_ids held'.ids) answered
+      → AnswersAtOnce keyspace given request (stream_of_ids held₀.ids) (stream_of_ids ids) answered
       → ForSome times (λ ts. moment ≡ next_time ts) → times' ≡ option_map times_after times → StepsOn start keyspace 1 held₀ held' (scene_of H low times) (scene_of H low times')
-  answers_at_once start keyspace H low times times' held₀ held' moment request rest answered none was now none' replies traces a gives clock requests stream p is =
+  answers_at_once start keyspace H low times times' held₀ held' moment given request rest answered ids same ids_are none was now none' replies traces a gives clock requests stream p is =
       let present : p.present ≡ None = is.present ∙ ap (option_map cut_off) none in
       let p_is : p ≡ free p.left p.served = λ i. record { left = p.left; served = p.served; present = present i } in
       let free_is : IsHeld keyspace requests stream held₀ (free p.left p.served) = subst (IsHeld keyspace requests stream held₀) p_is is in
@@ -221,7 +226,7 @@ module _ (laws : Laws) where
           record {
             from = x;
             to = x;
-            taken = inr (record { free = present; request = request; next = next; asked = a.asked; moment = λ ts told. a.moment_is ∙ gives ts told; clock = clock; trace = a.trace });
+            taken = inr (record { free = present; request = request; next = next; asked = a.asked; moment = λ ts told. a.moment_is ∙ same ∙ gives ts told; clock = clock; trace = a.trace });
             later = record { asking = refl; moment = refl; ids = refl };
             adds = inl (refl, refl);
             faults = omega arith;
@@ -239,7 +244,7 @@ module _ (laws : Laws) where
           asked = AreAsked-append keyspace free_is.begun (request ∷ []) p.served (x ∷ []) free_is.asked (a.asked, tt);
           all = free_is.all ∙ ap (λ l. free_is.begun ++ l) next ∙ sym (append_assoc free_is.begun (request ∷ []) rest);
           drawn = drawn_append stream p.served (x ∷ []) free_is.drawn (sym a.ids_are ∙ ap (drawn (draws_of a.asking)) free_is.ids, tt);
-          ids = a.left_is ∙ ap (after_drawing (draws_of a.asking)) free_is.ids ∙ sym (left_append stream p.served (x ∷ []));
+          ids = ap stream_of_ids ids_are ∙ a.left_is ∙ ap (after_drawing (draws_of a.asking)) free_is.ids ∙ sym (left_append stream p.served (x ∷ []));
         };
         session = λ base told was_one. laws.begins base H held₀.session p.served x a.trace (a.answers base H held₀.session) (subst (λ (q : Player). IsSession base H held₀.session (begun_by q)) p_is was_one);
       }
@@ -269,9 +274,31 @@ then_on start keyspace n m a b c s t u same f g requests stream p is =
 
 -- one step, if any, is some
 pub once_on : (start : Option State) (keyspace : List ℕ) (held held' : Held) (s s' : Scene) → StepsOnce start keyspace held held' s s' → (count : ℕ) × StepsOn start keyspace count held held' s s'
-once_on start keyspace held held' s s' = ⊎_elim
-    (λ e. (0, subst (λ (h : Held). StepsOn start keyspace 0 held h s s') (sym e.1) (subst (λ (t : Scene). StepsOn start keyspace 0 held held s t) (sym e.2) (none_on start keyspace held s))))
-    (λ f. (1, f))
+once_on start keyspace held held' s s' = ⊎_elim (λ e. (0, e.1)) (λ f. (1, f))
+
+-- where nothing is left, nothing is done
+pub idle_on : (start : Option State) (keyspace : List ℕ) (held held' : Held) (s : Scene) → held'.ids ≡ held.ids → held'.left.items ≡ held.left.items → held'.task ≡ held.task → held'.replies ≡ held.replies → held'.traces ≡ held.traces
+    → StepsOn start keyspace 0 held held' s s
+idle_on start keyspace held held' s ids left task replies traces requests stream p is = record {
+  now = p;
+  works = (refl, refl);
+  is_held = record {
+    left = left ∙ is.left;
+    replies = ap (λ v. v.items) replies ∙ is.replies;
+    traces = subst (λ v. AreTraces v.items p.served) (sym traces) is.traces;
+    present = is.present ∙ ap (option_map cut_off) (sym task);
+    begun = is.begun;
+    asked = is.asked;
+    all = is.all;
+    drawn = is.drawn;
+    ids = ap stream_of_ids ids ∙ is.ids;
+  };
+  session = λ base told was. was;
+}
+
+pub none_left : {X : Type 0} (xs : List X) → xs ≡ drop 1 xs → xs ≡ []
+none_left [] e = refl
+none_left (x ∷ xs) e = let l : length (x ∷ xs) ≡ length xs = ap length e in absurd (omega (arith, l))
 
 -- ---- what stays
 
@@ -302,6 +329,18 @@ fit_later start start' H H' low high held held' task is fit s = subst (λ (o : O
       room_for_traces = let more : length held'.traces.items ≡ length held.traces.items + 1 = ap length t.5 ∙ length_more held.traces.items s.later.trace in omega (arith, fit.room_for_traces, more, t.7, free_now, lefts);
     })
     s.then)
+
+-- a task that was made for the next request
+pub fit_next : (start : Option State) (H : List Entry) (held₀ held : Held) (task : Task) (request : Request) (rest : List Request) → CanGoOn start H held₀ → held₀.task ≡ None → held₀.left.items ≡ request ∷ rest → held.left.items ≡ rest
+    → held.replies ≡ held₀.replies → held.traces ≡ held₀.traces → task.session ≡ held.session → StandsOn start H task → CanGoOn start H (record held { task = Some task })
+fit_next start H held₀ held task request rest fit none was now replies traces session stands =
+    let free_then : under_way held₀.task ≡ 0 = ap under_way none in
+    let lefts : length held₀.left.items ≡ length held.left.items + 1 = ap length was ∙ (let l : length (request ∷ rest) ≡ length rest + 1 = omega arith in l) ∙ ap (λ l. length l + 1) (sym now) in
+    let many : length held.replies.items ≡ length held₀.replies.items = ap (λ v. length v.items) replies in
+    let cap : vec_capacity held.replies ≡ vec_capacity held₀.replies = ap vec_capacity replies in
+    let many' : length held.traces.items ≡ length held₀.traces.items = ap (λ v. length v.items) traces in
+    let cap' : vec_capacity held.traces ≡ vec_capacity held₀.traces = ap vec_capacity traces in
+    fit_busy start H held task session stands (omega (arith, fit.room, free_then, lefts, many, cap)) (omega (arith, fit.room_for_traces, free_then, lefts, many', cap'))
 
 -- the same of a request that is answered at once
 pub fit_at_once : (start : Option State) (H : List Entry) (held₀ held' : Held) (request : Request) (rest : List Request) (answered : Answered) → CanGoOn start H held₀ → held₀.left.items ≡ request ∷ rest → held'.left.items ≡ rest → held'.task ≡ None
@@ -362,3 +401,46 @@ module _ {K : Type 0} (failed : K → ℕ) where
   -- the journal of a lawful store is one, where told
   pub journal_of : (s t : Stored K) → SameBase s t → IsLawful t → ForSome s.start (λ b. IsJournal b t.journal)
   journal_of s t base lawful = λ b told. (lawful b (base.1 ∙ told)).0
+
+-- a task that is done was answered so
+done_so : (w : Working) (P : Reply → Type 0) (reply : Reply) → IfDone w (λ r. reply ≡ r) → IfDone w P → P reply
+done_so (Inserting i) P reply e h = absurd e
+done_so (Selecting search p shows) P reply e h = absurd e
+done_so (Listing search p part) P reply e h = absurd e
+done_so (Counting w last n) P reply e h = absurd e
+done_so (Choosing one p) P reply e h = absurd e
+done_so (Changing one attempt r) P reply e h = absurd e
+done_so (Putting one doc r) P reply e h = absurd e
+done_so (Paging many stand) P reply e h = absurd e
+done_so (Trying many stand attempt) P reply e h = absurd e
+done_so (Retrying many stand id) P reply e h = absurd e
+done_so (PuttingMany many stand doc r) P reply e h = absurd e
+done_so Creating P reply e h = absurd e
+done_so Dropping P reply e h = absurd e
+done_so Naming P reply e h = absurd e
+done_so (Unready command moment ids) P reply e h = absurd e
+done_so (Done r) P reply e h = subst P (sym e) h
+
+-- the last step of a task
+pub last_step : (start : Option State) (H H' : List Entry) (low high : ℕ) (held held' : Held) (task later : Task) (reply : Reply) (trace : Trace) → IsSame task later → Adds task.session low high H H' task.trace.items.items later.trace.items.items
+    → AddsItem task.trace.items.items later.trace.items.items ⊎ IfDone later.state (λ r. r ≡ NoMemory (accepted_by task.state))
+    → IfDone later.state (λ r. ForSome start (λ base. IsServed base H' (name_of later.coll) later.session later.trace.moment (ids_of later) (command_tree later.command.value) later.trace.items.items r))
+    → IfDone later.state (λ r. reply ≡ r) → trace ≡ later.trace → held.task ≡ None
+    → (held'.session ≡ held.session) × (held'.ids ≡ held.ids) × (held'.left ≡ held.left) × (held'.task ≡ held.task) → held'.replies.items ≡ held.replies.items ++ reply ∷ [] → held'.traces.items ≡ held.traces.items ++ trace ∷ []
+    → (vec_capacity held.replies ≤ vec_capacity held'.replies) × (vec_capacity held.traces ≤ vec_capacity held'.traces) → StepsTask start H H' low high held held' task
+last_step start H H' low high held held' task later reply trace same adds item served is trace_is none rest replies traces caps = record {
+  later = later;
+  same = same;
+  adds = adds;
+  rest = (rest.0, rest.1, rest.2);
+  then = inr (
+    reply,
+    rest.3 ∙ none,
+    λ base told. subst (λ k. IsAnswered base H' k (exchange later reply)) same.session (done_so later.state (λ r. ForSome start (λ b. IsAnswered b H' later.session (exchange later r))) reply is served base told),
+    ⊎_elim (λ a. inl a) (λ cut. inr (done_so later.state (λ r. r ≡ NoMemory (accepted_by task.state)) reply is cut)) item,
+    replies,
+    traces ∙ ap (λ t. held.traces.items ++ t ∷ []) trace_is,
+    caps.0,
+    caps.1,
+  );
+}

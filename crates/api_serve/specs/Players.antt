@@ -90,9 +90,9 @@ pub record Reaches (start : Option State) (keyspace : List ℕ) (requests : List
 abbrev pub StepsOn : Option State → List ℕ → ℕ → Held → Held → Scene → Scene → Type 0
 StepsOn start keyspace count held held' s s' = (requests : List Request) (stream : Stream) (p : Player) → IsHeld keyspace requests stream held p → Reaches start keyspace requests stream held.session count p held' s s'
 
--- one step, where anything is left
+-- one step, or none where nothing is left
 abbrev pub StepsOnce : Option State → List ℕ → Held → Held → Scene → Scene → Type 0
-StepsOnce start keyspace held held' s s' = (IsIdle held × (held' ≡ held) × (s' ≡ s)) ⊎ StepsOn start keyspace 1 held held' s s'
+StepsOnce start keyspace held held' s s' = (IsIdle held × StepsOn start keyspace 0 held held' s s') ⊎ StepsOn start keyspace 1 held held' s s'
 
 -- a session that was just opened, the k-th of the store, and will ask these requests
 pub record IsNew (seed : List ℕ) (base k : ℕ) (requests : List Request) (held : Held) : Type 0 where

@@ -21,7 +21,7 @@ returns-in-Task-clause-answers g c =
     let answered : Answered = record { reply = served.reply; trace = served.trace } in record {
       asking = asks_for task.coll (command_tree task.command.value);
       asked = made.asked;
-      moment_is = c.serve-reply.ensures.moment ∙ made.moment_is;
+      moment_is = search rules;
       session_is = performed c.args.store.now.start _ c.args.session c.args.store.now.journal _ (asks_for task.coll (command_tree task.command.value)) (drawn (draws (command_tree task.command.value)) (stream_of_ids c.args.ids.now))
           (answered_by task served) answered made.session_is
           (λ i. record { asking = asks_for task.coll (command_tree task.command.value); moment = served.trace.moment; ids = made.ids_are i; trace = served.trace.items.items; reply = served.reply })
@@ -34,7 +34,7 @@ returns-in-Answered-clause-answers g c =
     let a = c.in-Answered.ensures in record {
       asking = a.asking;
       asked = a.asked;
-      moment_is = a.moment_is;
+      moment_is = search rules;
       session_is = λ base told earlier was. subst (λ (ids : List Tree). IsSession base c.args.store.now.journal c.args.session (earlier ++ exchange_of a.asking ids c.in-Answered.answered ∷ [])) (sym a.ids_are)
           (c.a_request_begins.ensures base c.args.store.now.journal c.args.session earlier (exchange_of a.asking [] c.in-Answered.answered) a.trace (a.answers base c.args.store.now.journal c.args.session) was);
       left_is = a.left_is;

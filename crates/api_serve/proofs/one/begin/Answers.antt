@@ -1,4 +1,4 @@
-use Rattle.std.proofs.Common.{Err, [], refl, subst}
+use Rattle.std.proofs.Common.{Err, [], refl, subst, rules}
 use Rattle.cmd_grammar.specs.Requests.{IsReadAs}
 use Rattle.cmd_grammar.specs.declared.fault.CommandFault.{CommandFault}
 use Rattle.cmd_tasks.specs.Session.{is_refused}
@@ -9,7 +9,7 @@ pub returns-in-Err-Refused : goal.returns-in-Err-Refused
 returns-in-Err-Refused c = let u = c.refused.ensures in let error : ErrorItem = record { code = c.in-Err-Refused.code; message = c.in-Err-Refused.message } in record {
   asking = is_refused error;
   asked = subst (λ (f : CommandFault). IsReadAs c.args.keyspace.now c.args.request.now (Err f)) c.in-Err-Refused.field-0-is c.in-Err-Refused.ensures.answers;
-  moment_is = u.moment_is;
+  moment_is = search rules;
   ids_are = refl;
   left_is = refl;
   trace = u.trace;
