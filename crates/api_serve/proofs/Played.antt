@@ -1,6 +1,6 @@
 -- Sessions that were opened, played, and ended.
 use Rattle.std.proofs.Common.{◌≡◌, ◌≢◌, ◌⊎◌, ⊎_elim, inl, inr, ℕ, ℤ, zero, suc, ◌+◌, ◌<◌, ◌≤◌, List, [], ◌∷◌, ◌++◌, length, map, Option, Some, None, refl, sym, ap, ◌∙◌, subst, append_assoc, arith, vec_capacity}
-use Rattle.std.proofs.lemmas.List.{append-nil, length-map}
+use Rattle.std.proofs.lemmas.List.{append-nil, length-map, length-append, map-append}
 use Rattle.std.specs.Prelude.{IfSome}
 use Rattle.std.specs.Option.{ForSome, option_map}
 use Rattle.std.specs.List.{AllByRecursion as Each}
@@ -8,15 +8,18 @@ use Rattle.rand_core.specs.Stream.{Stream}
 use Rattle.reply_env.specs.declared.reply.Reply.{Reply}
 use Rattle.reply_env.specs.declared.request.Request.{Request}
 use Rattle.store_core.specs.State.{State}
+use Rattle.store_core.specs.Journal.{IsJournal}
 use Rattle.store_core.specs.Counts.{opened_in, writes_in}
+use Rattle.store_core.specs.Store.{Stored, SameBase, IsLawful}
 use Rattle.store_core.specs.declared.entry.Entry.{Entry}
 use Rattle.store_core.specs.declared.entry.Entry.TheVariants.{Opened, Created, Dropped, Changed, Failed}
 use Rattle.cmd_tasks.specs.Ids.{begins}
-use Rattle.cmd_tasks.specs.Session.{Exchange, AreSessions}
+use Rattle.cmd_tasks.specs.Session.{Exchange, IsSession, AreSessions}
 use Rattle.cmd_tasks.specs.Stands.{StandsOn}
 use Rattle.cmd_tasks.specs.declared.task.Task.{Task}
 use Rattle.cmd_tasks.specs.declared.trace.Trace.{Trace}
 use Rattle.api_serve.specs.Session.{AreAsked, AreTraces, AreDrawn}
+use Rattle.api_serve.specs.Laws.{Laws}
 use Rattle.api_serve.specs.Play.{Player, Scene, Standing, begun_by, and_present, IsDone, IsPlayed}
 use Rattle.api_serve.specs.Mix.{openings, waiting, AllAsked, AllTraces, AllDrawn, replies_from, writes_line, Plays}
 use Rattle.api_serve.specs.Mixing.{answers_from, output_of}
@@ -205,3 +208,72 @@ writes_of H H₁ H' more k n opened longer =
     let a = ap writes_in longer ∙ writes_append H₁ more in
     let b = ap writes_in opened ∙ writes_append H (openings k n) in
     let c = openings_write k n in omega (arith, a, b, c)
+
+-- ---- one session more is opened
+
+openings_then : (k n m : ℕ) → openings k n ++ openings (k + n) m ≡ openings k (n + m)
+openings_then k zero m = let none : k + 0 ≡ k = omega arith in let sum : m ≡ 0 + m = omega arith in ap (λ j. openings j m) none ∙ ap (openings k) sum
+openings_then k (suc n) m =
+    let same : k + suc n ≡ (k + 1) + n = omega arith in
+    let sum : suc (n + m) ≡ suc n + m = omega arith in
+    ap (λ j. Opened k ∷ openings (k + 1) n ++ openings j m) same ∙ ap (λ es. Opened k ∷ es) (openings_then (k + 1) n m) ∙ ap (openings k) sum
+
+-- openings behind openings
+pub opened_more : (H H' H'' : List Entry) (n m : ℕ) → H' ≡ H ++ openings (opened_in H) n → H'' ≡ H' ++ openings (opened_in H') m → H'' ≡ H ++ openings (opened_in H) (n + m)
+opened_more H H' H'' n m first more =
+    let count : opened_in H' ≡ opened_in H + n = ap opened_in first ∙ opened_append H (openings (opened_in H) n) ∙ ap (λ j. opened_in H + j) (openings_opened (opened_in H) n) in
+    more ∙ (λ i. first i ++ openings (count i) m) ∙ append_assoc H (openings (opened_in H) n) (openings (opened_in H + n) m) ∙ ap (λ es. H ++ es) (openings_then (opened_in H) n m)
+
+-- one opening is one
+pub opened_one : (H H' : List Entry) → H' ≡ H ++ Opened (opened_in H) ∷ [] → H' ≡ H ++ openings (opened_in H) 1
+opened_one H H' e = e
+
+pub opened_none : (H H' : List Entry) → H' ≡ H → H' ≡ H ++ openings (opened_in H) 0
+opened_none H H' e = e ∙ sym (append-nil H)
+
+module _ (seed : List ℕ) (base : ℕ) where
+  new_more : (k n : ℕ) (requests : List (List Request)) (held : List Held) (r : List Request) (h : Held) → n ≡ k + length requests → AreNew seed base k requests held → IsNew seed base n r h → AreNew seed base k (requests ++ r ∷ []) (held ++ h ∷ [])
+  new_more k n [] [] r h is new one = (subst (λ j. IsNew seed base j r h) (let same : n ≡ k = omega (arith, is) in same) one, tt)
+  new_more k n [] (g ∷ held) r h is new one = absurd new
+  new_more k n (q ∷ requests) [] r h is new one = absurd new
+  new_more k n (q ∷ requests) (g ∷ held) r h is new one = (new.0, new_more (k + 1) n requests held r h (omega (arith, is)) new.1 one)
+
+new_long : (seed : List ℕ) (base k : ℕ) (requests : List (List Request)) (held : List Held) → AreNew seed base k requests held → length held ≡ length requests
+new_long seed base k [] [] new = refl
+new_long seed base k [] (g ∷ held) new = absurd new
+new_long seed base k (q ∷ requests) [] new = absurd new
+new_long seed base k (q ∷ requests) (g ∷ held) new = let l = new_long seed base (k + 1) requests held new.1 in omega (arith, l)
+
+sessions_more : (b : State) (H : List Entry) (k n : ℕ) (all : List (List Exchange)) (xs : List Exchange) → n ≡ k + length all → AreSessions b H k all → IsSession b H n xs → AreSessions b H k (all ++ xs ∷ [])
+sessions_more b H k n [] xs is h one = (subst (λ j. IsSession b H j xs) (let same : n ≡ k = omega (arith, is) in same) one, tt)
+sessions_more b H k n (ys ∷ all) xs is h one = (h.0, sessions_more b H (k + 1) n all xs (omega (arith, is)) h.1 one)
+
+-- what holds of the sessions that were opened so far
+pub record AreOpened {K : Type 0} (seed : List ℕ) (s₀ s : Stored K) (requests : List (List Request)) (held : List Held) : Type 0 where
+  pub new : AreNew seed s₀.first (opened_in s₀.journal) requests held
+  pub journal : s.journal ≡ s₀.journal ++ openings (opened_in s₀.journal) (length requests)
+  pub sessions : ForSome s₀.start (λ b. AreSessions b s.journal (opened_in s₀.journal) (map (λ (h : Held). no_exchange) held))
+
+module _ (laws : Laws) where
+  sessions_stay : (b : State) (H : List Entry) (j k : ℕ) (all : List (List Exchange)) → IsJournal b (H ++ Opened j ∷ []) → AreSessions b H k all → AreSessions b (H ++ Opened j ∷ []) k all
+  sessions_stay b H j k [] journal h = tt
+  sessions_stay b H j k (xs ∷ all) journal h = (laws.stays b H (Opened j ∷ []) k xs journal (refl, tt) h.0, sessions_stay b H j (k + 1) all journal h.1)
+
+  pub opens_more : {K : Type 0} (seed : List ℕ) (s₀ s t : Stored K) (requests : List (List Request)) (held : List Held) (r : List Request) (h : Held) → AreOpened seed s₀ s requests held → SameBase s₀ s → SameBase s t → IsLawful t → ForSome s₀.start (λ b. b.sessions ≡ 0)
+      → ((base : State) (H : List Entry) (k : ℕ) → base.sessions ≡ 0 → k ≡ opened_in H → IsJournal base (H ++ Opened k ∷ []) → IsSession base (H ++ Opened k ∷ []) k [])
+      → IsNew seed s.first (opened_in s.journal) r h → t.journal ≡ s.journal ++ Opened (opened_in s.journal) ∷ [] → AreOpened seed s₀ t (requests ++ r ∷ []) (held ++ h ∷ [])
+  opens_more seed s₀ s t requests held r h so base base' lawful none opens new journal =
+      let k = opened_in s₀.journal in
+      let n = length requests in
+      let count : opened_in s.journal ≡ k + n = ap opened_in so.journal ∙ opened_append s₀.journal (openings k n) ∙ ap (λ j. k + j) (openings_opened k n) in
+      let long : length (requests ++ r ∷ []) ≡ n + 1 = length-append requests (r ∷ []) in
+      let held_long : length (map (λ (z : Held). no_exchange) held) ≡ n = length-map held (λ (z : Held). no_exchange) ∙ new_long seed s₀.first k requests held so.new in record {
+        new = new_more seed s₀.first k (opened_in s.journal) requests held r h count so.new (subst (λ m. IsNew seed m (opened_in s.journal) r h) base.2 new);
+        journal = opened_more s₀.journal s.journal t.journal n 1 so.journal (opened_one s.journal t.journal journal) ∙ ap (λ m. s₀.journal ++ openings k m) (sym long);
+        sessions = λ b told.
+            let legal : IsJournal b (s.journal ++ Opened (opened_in s.journal) ∷ []) = subst (IsJournal b) journal ((lawful b (base'.1 ∙ base.1 ∙ told)).0) in
+            subst (λ J. AreSessions b J k (map (λ (z : Held). no_exchange) (held ++ h ∷ []))) (sym journal)
+            (subst (AreSessions b (s.journal ++ Opened (opened_in s.journal) ∷ []) k) (sym (map-append (λ (z : Held). no_exchange) held (h ∷ [])))
+            (sessions_more b (s.journal ++ Opened (opened_in s.journal) ∷ []) k (opened_in s.journal) (map (λ (z : Held). no_exchange) held) [] (count ∙ ap (λ m. k + m) (sym held_long))
+                (sessions_stay b s.journal (opened_in s.journal) k (map (λ (z : Held). no_exchange) held) legal (so.sessions b told)) (opens b s.journal (opened_in s.journal) (none b told) refl legal)));
+      }
