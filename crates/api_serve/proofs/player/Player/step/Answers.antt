@@ -13,7 +13,7 @@ returns-in-Some-clause-steps g c =
     let taken : h ≡ record h { task = Some task } = λ i. record h { task = sym c.in-Some.ensures.value i } in
     let told = c.step_task.ensures in
     inr (goes_on c.sessions_go_on.ensures _ c.args.keyspace.now _ _ _ _ _ h held c.step_task.new.self task taken (stands_of failed c.args.store.now h held task taken c.requires.fit).0 told.steps told.faults
-        (journal_of c.args.store.now c.step_task.new.store told.base told.lawful))
+        (journal_of g.K.Keeper.failed c.args.store.now c.step_task.new.store told.base told.lawful))
 
 pub returns-in_default-pop_front-clause-steps : goal.returns-in_default-pop_front-clause-steps
 returns-in_default-pop_front-clause-steps g c =
@@ -34,7 +34,7 @@ returns-in-Task-clause-steps g c =
     let none : h.task ≡ None = search rules in
     let told = c.step_task-in-Task.ensures in
     inr (begins_with c.sessions_go_on.ensures _ c.args.keyspace.now _ _ _ _ _ _ h held c.step_task-in-Task.new.self c.now_ms-moment.result _ c.in-Some-pop_front.request c.pop_front.new.self.items task (search rules) none c.in-Some-pop_front.ensures.items refl refl refl c.in-Task.ensures
-        c.now_ms-moment.ensures.gives c.now_ms-moment.ensures.later told.steps told.faults (journal_of c.args.store.now c.step_task-in-Task.new.store told.base told.lawful))
+        c.now_ms-moment.ensures.gives c.now_ms-moment.ensures.later told.steps told.faults (journal_of g.K.Keeper.failed c.args.store.now c.step_task-in-Task.new.store told.base told.lawful))
 
 pub returns-in-Task-clause-fit : goal.returns-in-Task-clause-fit
 returns-in-Task-clause-fit g c =
