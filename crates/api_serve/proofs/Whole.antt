@@ -1,5 +1,5 @@
 -- A whole run, piece by piece.
-use Rattle.std.proofs.Common.{◌≡◌, ◌≤◌, ◌<◌, ◌+◌, ◌-◌, ◌^◌, ◌++◌, ◌∷◌, [], ℕ, List, Bool, true, false, length, Option, Some, None, refl, sym, ◌∙◌, ap, subst, append_assoc, arith, length-append, take, inl, inr, ⊎_elim}
+use Rattle.std.proofs.Common.{◌≡◌, ◌≤◌, ◌<◌, ◌+◌, ◌-◌, ◌^◌, ◌++◌, ◌∷◌, [], ℕ, List, length, Option, Some, None, refl, sym, ◌∙◌, ap, subst, append_assoc, arith, length-append, take, inl, inr, ⊎_elim}
 use Rattle.std.proofs.lemmas.List.{length-take}
 use Rattle.std.proofs.Math.Seq.{take-append-add}
 use Rattle.std.specs.Option.{ForSome}
@@ -9,7 +9,7 @@ use Rattle.api_serve.specs.Separated.{is_free_of}
 use Rattle.api_serve.specs.Lines.{ended_lines, Splits, HasLines, last_line}
 use Rattle.api_serve.specs.Request.{is_skipped}
 use Rattle.api_serve.specs.Run.{Serves, Reads, HasRead, ServesWholeLines, ServesBefore, ServesFirst}
-use Rattle.api_serve.specs.Ends.{EndsRun, IsReadFault, IsWriteFault}
+use Rattle.api_serve.specs.Ends.{EndsRun, IsReadFault}
 use Rattle.api_serve.specs.Piece.{fed}
 use Rattle.api_serve.specs.Shown.{service_of}
 use Rattle.store_core.specs.State.{State}
