@@ -1,5 +1,5 @@
 //! The script of a mix: what each of its sessions asks, and in which order they take their steps.
-ghost use Rattle.std.specs.Prelude.{◌≡◌, ◌++◌, ◌∷◌, ◌<◌, ◌≤◌, ◌^◌, ℕ, List, [], None, Err, IfOk, IfErr, IfSome, MatchOption, OnOk, codes, decimal, length, map, IsTrue, false};
+ghost use Rattle.std.specs.Prelude.{◌≡◌, ◌++◌, ◌∷◌, ◌<◌, ◌≤◌, ℕ, List, [], None, Err, IfOk, IfErr, IfSome, MatchOption, OnOk, codes, decimal, length, map, IsTrue, false};
 ghost use Rattle.std.specs.List.{AllByRecursion as Each};
 ghost use Rattle.api_serve.specs.Separated.{is_free_of};
 ghost use Rattle.api_serve.specs.Lines.{HasLines};
