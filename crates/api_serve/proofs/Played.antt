@@ -1,7 +1,7 @@
 -- Sessions that were opened, played, and ended.
-use Rattle.std.proofs.Common.{◌≡◌, ◌≢◌, ◌⊎◌, ⊎_elim, inl, inr, ℕ, ℤ, zero, suc, ◌+◌, ◌<◌, ◌≤◌, List, [], ◌∷◌, ◌++◌, length, map, Option, Some, None, refl, sym, ap, ◌∙◌, subst, append_assoc, arith, vec_capacity}
+use Rattle.std.proofs.Common.{◌≡◌, ◌≢◌, ◌⊎◌, ⊎_elim, inl, inr, ℕ, ℤ, zero, suc, ◌+◌, ◌<◌, ◌≤◌, List, [], ◌∷◌, ◌++◌, length, map, Option, Some, None, Result, Ok, Err, refl, sym, ap, ◌∙◌, subst, append_assoc, arith, vec_capacity}
 use Rattle.std.proofs.lemmas.List.{append-nil, length-map, length-append, map-append}
-use Rattle.std.specs.Prelude.{IfSome}
+use Rattle.std.specs.Prelude.{IfSome, OnErr}
 use Rattle.std.specs.Option.{ForSome, option_map}
 use Rattle.std.specs.List.{AllByRecursion as Each}
 use Rattle.rand_core.specs.Stream.{Stream}
@@ -277,3 +277,7 @@ module _ (laws : Laws) where
             (sessions_more b (s.journal ++ Opened (opened_in s.journal) ∷ []) k (opened_in s.journal) (map (λ (z : Held). no_exchange) held) [] (count ∙ ap (λ m. k + m) (sym held_long))
                 (sessions_stay b s.journal (opened_in s.journal) k (map (λ (z : Held). no_exchange) held) legal (so.sessions b told)) (opens b s.journal (opened_in s.journal) (none b told) refl legal)));
       }
+
+pub on_err : {X E : Type 0} (r : Result X E) (P : Type 0) → P → OnErr r P
+on_err (Ok x) P p = tt
+on_err (Err e) P p = p
