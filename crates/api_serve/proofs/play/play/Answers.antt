@@ -1,5 +1,5 @@
-use Rattle.std.proofs.Common.{rules, ◌<◌, length, refl}
-use Rattle.std.proofs.lemmas.Option.{slice_get_read}
+use Rattle.std.proofs.Common.{rules, ◌<◌, length, get_or}
+use Rattle.std.proofs.lemmas.Option.{slice_get-get_or}
 use Rattle.api_serve.proofs.Turns.{run_out_more}
 use Rattle.api_serve.proofs.play.play.Goals as goal
 
