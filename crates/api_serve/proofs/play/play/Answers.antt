@@ -9,4 +9,4 @@ players-preserved g c =
     let told = c.run_out.ensures in
     let inside : at.at < length at.players = search rules in
     run_out_more c.sessions_go_on.ensures g.K.Keeper.failed c.args.keyspace.now c.args.store.now (g.C.Clock.times c.args.clock.now) c.args.players.now c.args.turns.now at.at at.store c.run_out.new.store _ _ at.players c.index-players-at.result c.run_out.new.self at.invariant
-    (slice_get_read at.players (length at.players) at.at c.index-players-at.result refl inside c.index-players-at.is) told.session told.fit told.grown told.base told.lawful told.steps told.ended
+    (slice_get-get_or at.players at.at c.index-players-at.result inside) told.session told.fit told.grown told.base told.lawful told.steps told.ended
