@@ -1,6 +1,6 @@
 -- Sessions that were opened, played, and ended.
-use Rattle.std.proofs.Common.{◌≡◌, ◌≢◌, ◌⊎◌, ⊎_elim, inl, inr, ℕ, ℤ, zero, suc, ◌+◌, ◌<◌, ◌≤◌, List, [], ◌∷◌, ◌++◌, length, map, Option, Some, None, Result, Ok, Err, refl, sym, ap, ◌∙◌, subst, append_assoc, arith, vec_capacity}
-use Rattle.std.proofs.lemmas.List.{append-nil, length-map, length-append, map-append}
+use Rattle.std.proofs.Common.{◌≡◌, ◌≢◌, ◌⊎◌, ⊎_elim, inl, inr, ℕ, ℤ, zero, suc, ◌+◌, ◌<◌, ◌≤◌, List, [], ◌∷◌, ◌++◌, length, map, take, drop, Option, Some, None, Result, Ok, Err, refl, sym, ap, ◌∙◌, subst, append_assoc, arith, vec_capacity}
+use Rattle.std.proofs.lemmas.List.{append-nil, length-map, length-append, map-append, take_all, drop_all}
 use Rattle.std.specs.Prelude.{IfSome, OnErr}
 use Rattle.std.specs.Option.{ForSome, option_map}
 use Rattle.std.specs.List.{AllByRecursion as Each}
@@ -23,6 +23,8 @@ use Rattle.api_serve.specs.Laws.{Laws}
 use Rattle.api_serve.specs.Play.{Player, Scene, Standing, begun_by, and_present, IsDone, IsPlayed}
 use Rattle.api_serve.specs.Mix.{openings, waiting, AllAsked, AllTraces, AllDrawn, replies_from, writes_line, Plays}
 use Rattle.api_serve.specs.Mixing.{answers_from, output_of}
+use Rattle.api_serve.specs.Mixed.{PlaysScript}
+use Rattle.api_serve.specs.declared.mixing.Played.{Played as Answers}
 use Rattle.api_serve.specs.Players.{cut_off, under_way, scene_of, IsIdle, CanGoOn, IsHeld, IsNew, AreNew, AreNumbered, ArePlayable, AreHeld, AreStanding, PlaysOut}
 use Rattle.api_serve.specs.declared.player.Player.{Player as Held}
 use Rattle.api_serve.proofs.Replies.{replies_are_answers}
@@ -281,3 +283,29 @@ module _ (laws : Laws) where
 pub on_err : {X E : Type 0} (r : Result X E) (P : Type 0) → P → OnErr r P
 on_err (Ok x) P p = tt
 on_err (Err e) P p = p
+
+mapped : {X Y Z : Type 0} (f : X → Y) (h : Y → Z) (xs : List X) → map h (map f xs) ≡ map (λ x. h (f x)) xs
+mapped f h [] = refl
+mapped f h (x ∷ xs) = ap (λ zs. h (f x) ∷ zs) (mapped f h xs)
+
+-- a script that was played, with these answers
+pub plays_script : (start : Option State) (keyspace seed : List ℕ) (base : ℕ) (before : Scene) (H₁ H' more : List Entry) (high : ℕ) (times' : Option (List ℤ)) (requests : List (List Request)) (turns : List ℕ) (held held' : List Held) (played : Answers)
+    → H₁ ≡ before.journal ++ openings (opened_in before.journal) (length requests) → H' ≡ H₁ ++ more → AreNew seed base (opened_in before.journal) requests held
+    → ForSome start (λ b. AreSessions b H₁ (opened_in before.journal) (map (λ (h : Held). no_exchange) held)) → PlaysOut start keyspace turns held held' (scene_of H₁ before.failed before.times) (scene_of H' high times')
+    → played.traces.items ≡ map (λ (h : Held). h.traces) held' → played.replies.items ≡ map (λ (h : Held). h.replies) held' → PlaysScript keyspace seed start base before (scene_of H' high times') requests turns played
+plays_script start keyspace seed base before H₁ H' more high times' requests turns held held' played opened longer new sessions plays traces replies =
+    let first = opened_in before.journal in
+    let all_traces : map (λ l. l.items) played.traces.items ≡ map (λ (h : Held). h.traces.items) held' = ap (map (λ l. l.items)) traces ∙ mapped (λ (h : Held). h.traces) (λ l. l.items) held' in
+    let all_replies : map (λ l. l.items) played.replies.items ≡ map (λ (h : Held). h.replies.items) held' = ap (map (λ l. l.items)) replies ∙ mapped (λ (h : Held). h.replies) (λ l. l.items) held' in
+    let known = whole start keyspace seed base before H₁ H' more high times' requests turns held held' (writes_in more) opened longer new sessions plays (new_long seed base first requests held new) refl in record {
+      count = writes_in more;
+      counts = writes_of before.journal H₁ H' more first (length requests) opened longer;
+      plays = subst (λ rs. Plays keyspace seed start base before (scene_of H' high times') (map (λ l. l.items) played.traces.items) requests turns (output_of rs (writes_in more))) (sym all_replies)
+          (subst (λ ts. Plays keyspace seed start base before (scene_of H' high times') ts requests turns (output_of (map (λ (h : Held). h.replies.items) held') (writes_in more))) (sym all_traces) known);
+    }
+
+-- what is written back to a vector from a slice of it
+pub written_back : {X : Type 0} (n : ℕ) (new old : List X) → length new ≡ length old → n ≡ length old → take n (new ++ drop (length new) old) ≡ new
+written_back n new old same long =
+    let none : drop (length new) old ≡ [] = drop_all (length new) old (omega (arith, same)) in
+    ap (λ l. take n (new ++ l)) none ∙ ap (take n) (append-nil new) ∙ take_all n new (omega (arith, same, long))

@@ -235,6 +235,7 @@ fn play_script<K: Keeper, C: Clock>(
     ensures base { SameBase store.old store.new }
     ensures lawful { IsLawful store.new }
 {
+    store.journal_len();
     let Script { requests, turns } = script;
     let room = room_for(alloc, requests.len())?;
     let mut players = open_players(alloc, store, seed, requests)?;

@@ -110,6 +110,7 @@ pub fn play<K: Keeper, C: Clock>(
     requires within { Each (λ k. k < length players.old) turns.now }
     ensures plays { PlaysOut store.old.start keyspace.now turns.now players.old players.new
         (scene_of store.old.journal (K.failed store.old.keeper) (C.times clock.old)) (scene_of store.new.journal (K.failed store.new.keeper) (C.times clock.new)) }
+    ensures long { length players.new ≡ length players.old }
     ensures longer { (more : List Journaled) × (store.new.journal ≡ store.old.journal ++ more) }
     ensures faults { K.failed store.old.keeper ≤ K.failed store.new.keeper }
     ensures base { SameBase store.old store.new }

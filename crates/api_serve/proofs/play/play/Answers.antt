@@ -8,5 +8,5 @@ players-preserved g c =
     let at = c.players in
     let told = c.run_out.ensures in
     let inside : at.at < length at.players = search rules in
-    run_out_more c.sessions_go_on.ensures g.K.Keeper.failed c.args.keyspace.now c.args.store.now (g.C.Clock.times c.args.clock.now) c.args.players.now c.args.turns.now at.at at.store c.run_out.new.store _ _ at.players c.index-players-at.result c.run_out.new.self at.invariant
+    run_out_more c.sessions_go_on.ensures g.K.Keeper.failed c.args.keyspace.now c.args.store.now (g.C.Clock.times c.args.clock.now) c.args.players.now c.args.turns.now at.at at.store c.run_out.new.store _ _ at.players (get_or at.players at.at c.index-players-at.result) c.run_out.new.self at.invariant
     (slice_get-get_or at.players at.at c.index-players-at.result inside) told.session told.fit told.grown told.base told.lawful told.steps told.ended
