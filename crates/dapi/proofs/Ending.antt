@@ -8,7 +8,7 @@ use Rattle.col_keeper.specs.Tables.{Tables, AreApart}
 use Rattle.store_core.specs.State.{start_of, tables_of}
 use Rattle.store_core.specs.Journal.{replay}
 use Rattle.cmd_tasks.specs.declared.trace.Trace.{Trace}
-use Rattle.store_core.specs.Store.{Stored}
+use Rattle.store_core.specs.Store.{Stored, IsKept}
 use Rattle.store_core.specs.Opening.{missed, with_names, begun_with, opened_with, would_live, keeper_in, Refuses}
 use Rattle.store_core.specs.declared.entry.Entry.{Entry}
 use Rattle.store_core.specs.declared.open.OpenFault.{OpenFault}
@@ -328,6 +328,10 @@ opened_few words command₁ command₂ keyspace₁ keyspace₂ cs ds tables stat
     absurd (omega (arith, most, over))
 
 -- ---- a command on a store, and what its keeper is then
+
+-- the journal of a store is legal, from a base whose collections differ by name
+pub legal_of : {K : Type 0} (tables : K → Option Tables) (failed : K → ℕ) (store : Stored K) → IsKept tables failed store → ForSome store.start (λ b. IsJournal b store.journal × AreApart b.collections)
+legal_of tables failed store kept b told = (kept.history.legal b told, (kept.history.begins b told).apart)
 
 module _ {K : Type 0} (tables : K → Option Tables) (failed : K → ℕ) (keyspace seed : List ℕ) (old new : Stored K) (times later : Option (List ℤ)) (kept : K) (from to : Reading) (before after : Writing) (how : RunHow) (back : kept ≡ new.keeper)
     (tables_are : tables kept ≡ option_map (λ s. tables_of (replay s new.journal)) new.start) (legal : ForSome new.start (λ b. IsJournal b new.journal × AreApart b.collections)) (base : new.start ≡ old.start) where

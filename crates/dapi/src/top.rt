@@ -71,6 +71,52 @@ fn refuse_store<E: Sink, K: Keeper>(notes: &mut E, fault: OpenFault<K>) -> (u8, 
 }
 
 // Runs on an open store, and hands its keeper back.
+fn run_on<S: Source, W: Sink, E: Sink, K: Keeper, C: Clock>(
+    alloc: Global,
+    keyspace: &str,
+    source: &mut S,
+    sink: &mut W,
+    notes: &mut E,
+    store: Store<K>,
+    clock: &mut C,
+    seed: &[u8; 28],
+) -> (u8, K)
+    ensures ran { (how : RunHow) × (result.0 ≡ status_of how) × IsNoted (E.writing notes.old) (E.writing notes.new) (note_of how)
+        × EndsAs K.tables K.failed keyspace.now seed.now store (C.times clock.old) result.1 (S.reading source.old) (S.reading source.new) (W.writing sink.old) (W.writing sink.new) how
+        ((source.new ≡ source.old) × (sink.new ≡ sink.old)) Cmd.Run }
+    ensures bounded { (count : ℕ) × (count ≤ 2 ^ 40) × HasRead (S.reading source.old) (S.reading source.new) count }
+    ensures faults { K.failed store.keeper ≤ K.failed result.1 }
+{
+    let mut store = store;
+    let RunEnd { how, traces: _ } = run_lines(alloc, keyspace, source, sink, &mut store, clock, seed);
+    write_note(notes, note_of(how).as_str());
+    (status_of(how), store.into_keeper())
+}
+
+// Plays a script on an open store, and hands its keeper back.
+fn mix_on<S: Source, W: Sink, E: Sink, K: Keeper, C: Clock>(
+    alloc: Global,
+    keyspace: &str,
+    source: &mut S,
+    sink: &mut W,
+    notes: &mut E,
+    store: Store<K>,
+    clock: &mut C,
+    seed: &[u8; 28],
+) -> (u8, K)
+    ensures ran { (how : RunHow) × (result.0 ≡ status_of how) × IsNoted (E.writing notes.old) (E.writing notes.new) (note_of how)
+        × EndsAs K.tables K.failed keyspace.now seed.now store (C.times clock.old) result.1 (S.reading source.old) (S.reading source.new) (W.writing sink.old) (W.writing sink.new) how
+        ((source.new ≡ source.old) × (sink.new ≡ sink.old)) Cmd.Mix }
+    ensures bounded { (count : ℕ) × (count ≤ 2 ^ 40) × HasRead (S.reading source.old) (S.reading source.new) count }
+    ensures faults { K.failed store.keeper ≤ K.failed result.1 }
+{
+    let mut store = store;
+    let RunEnd { how, traces: _ } = mix(alloc, keyspace, source, sink, &mut store, clock, seed);
+    write_note(notes, note_of(how).as_str());
+    (status_of(how), store.into_keeper())
+}
+
+// Does what a command says on an open store, and hands its keeper back.
 fn run_store<S: Source, W: Sink, E: Sink, K: Keeper, C: Clock>(
     alloc: Global,
     command: Cmd,
@@ -88,13 +134,14 @@ fn run_store<S: Source, W: Sink, E: Sink, K: Keeper, C: Clock>(
     ensures bounded { (count : ℕ) × (count ≤ 2 ^ 40) × HasRead (S.reading source.old) (S.reading source.new) count }
     ensures faults { K.failed store.keeper ≤ K.failed result.1 }
 {
-    let mut store = store;
-    let RunEnd { how, traces: _ } = match command {
-        Cmd::Run => run_lines(alloc, keyspace, source, sink, &mut store, clock, seed),
-        Cmd::Mix => mix(alloc, keyspace, source, sink, &mut store, clock, seed),
-    };
-    write_note(notes, note_of(how).as_str());
-    (status_of(how), store.into_keeper())
+    match command {
+        Cmd::Run => run_on(
+            alloc, keyspace, source, sink, notes, store, clock, seed,
+        ),
+        Cmd::Mix => mix_on(
+            alloc, keyspace, source, sink, notes, store, clock, seed,
+        ),
+    }
 }
 
 /// Does what the words after the program's name say over a keeper, and answers the exit status, and the keeper: 0 all was
