@@ -140,23 +140,23 @@ step_grows : (keyspace : List ℕ) (first place : ℕ) (s s' : Standing) → Get
 step_grows keyspace first place s s' g = ⊎_elim
     (λ idle. subst (λ (t : Standing). Grew first s t) (sym idle.1) (grew_none first s))
     (λ w. ⊎_elim
-        (λ same. record {
-          more = [];
-          longer = same.1 ∙ sym (append-nil s.scene.journal);
-          counted = tt;
-          faults = w.faults;
-          long = ap length g.players ∙ length-set s.players place g.after;
-          alone = λ e. tt;
-        })
-        (λ a. record {
-          more = a.1;
-          longer = a.3;
-          counted = a.7;
-          faults = w.faults;
-          long = ap length g.players ∙ length-set s.players place g.after;
-          alone = λ e. let at : place ≡ 0 = only_one s.players place g.before e g.at in subst (λ k. AllBy k a.1) (let same : first + place ≡ first = omega (arith, at) in same) a.6;
-        })
-        w.adds)
+    (λ same. record {
+      more = [];
+      longer = same.1 ∙ sym (append-nil s.scene.journal);
+      counted = tt;
+      faults = w.faults;
+      long = ap length g.players ∙ length-set s.players place g.after;
+      alone = λ e. tt;
+    })
+    (λ a. record {
+      more = a.1;
+      longer = a.3;
+      counted = a.7;
+      faults = w.faults;
+      long = ap length g.players ∙ length-set s.players place g.after;
+      alone = λ e. let at : place ≡ 0 = only_one s.players place g.before e g.at in subst (λ k. AllBy k a.1) (let same : first + place ≡ first = omega (arith, at) in same) a.6;
+    })
+    w.adds)
     g.step
 
 steps_grow : (keyspace : List ℕ) (first : ℕ) (turns : List ℕ) (s s' : Standing) → GetSteps keyspace first turns s s' → Grew first s s'

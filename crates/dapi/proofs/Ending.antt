@@ -211,11 +211,11 @@ module _ {K : Type 0} (tables : K → Option Tables) (failed : K → ℕ) (words
       later = e.later;
       ended =
           subst (λ (k : K). Ended
-              (Plays keyspace seed store.start store.first (record { journal = []; failed = failed k; times = times }) (record { journal = e.history; failed = failed kept; times = e.later }) e.traces)
-              (IsUnplayed (record { journal = []; failed = failed k; times = times }) (record { journal = e.history; failed = failed kept; times = e.later }) e.traces before after)) begins.1
+          (Plays keyspace seed store.start store.first (record { journal = []; failed = failed k; times = times }) (record { journal = e.history; failed = failed kept; times = e.later }) e.traces)
+          (IsUnplayed (record { journal = []; failed = failed k; times = times }) (record { journal = e.history; failed = failed kept; times = e.later }) e.traces before after)) begins.1
           (subst (λ (h : List Entry). Ended
-              (Plays keyspace seed store.start store.first (record { journal = h; failed = failed store.keeper; times = times }) (record { journal = e.history; failed = failed kept; times = e.later }) e.traces)
-              (IsUnplayed (record { journal = h; failed = failed store.keeper; times = times }) (record { journal = e.history; failed = failed kept; times = e.later }) e.traces before after)) begins.0 (so _ _ e.ended));
+          (Plays keyspace seed store.start store.first (record { journal = h; failed = failed store.keeper; times = times }) (record { journal = e.history; failed = failed kept; times = e.later }) e.traces)
+          (IsUnplayed (record { journal = h; failed = failed store.keeper; times = times }) (record { journal = e.history; failed = failed kept; times = e.later }) e.traces before after)) begins.0 (so _ _ e.ended));
       leaves = leaves e.history e.left;
     }
 
@@ -333,10 +333,10 @@ opened_few words command₁ command₂ keyspace₁ keyspace₂ cs ds tables stat
 pub legal_of : {K : Type 0} (tables : K → Option Tables) (failed : K → ℕ) (store : Stored K) → IsKept tables failed store → ForSome store.start (λ b. IsJournal b store.journal × AreApart b.collections)
 legal_of tables failed store kept b told = (kept.history.legal b told, (kept.history.begins b told).apart)
 
-module _ {K : Type 0} (tables : K → Option Tables) (failed : K → ℕ) (keyspace seed : List ℕ) (old new : Stored K) (times later : Option (List ℤ)) (kept : K) (from to : Reading) (before after : Writing) (how : RunHow) (back : kept ≡ new.keeper)
-    (tables_are : tables kept ≡ option_map (λ s. tables_of (replay s new.journal)) new.start) (legal : ForSome new.start (λ b. IsJournal b new.journal × AreApart b.collections)) (base : new.start ≡ old.start) where
+module _ {K : Type 0} (tables : K → Option Tables) (failed : K → ℕ) (keyspace seed : List ℕ) (old new : Stored K) (times later : Option (List ℤ)) (kept : K) (from to : Reading) (before after : Writing) (how : RunHow) (back : kept ≡ new.keeper) (is_left : IsLeft tables new kept new.journal)
+    (base : new.start ≡ old.start) where
   left : IsLeft tables old kept new.journal
-  left = record { tables_are = tables_are ∙ ap (option_map (λ s. tables_of (replay s new.journal))) base; legal = subst (λ (o : Option State). ForSome o (λ b. IsJournal b new.journal × AreApart b.collections)) base legal }
+  left = record { tables_are = is_left.tables_are ∙ ap (option_map (λ s. tables_of (replay s new.journal))) base; legal = subst (λ (o : Option State). ForSome o (λ b. IsJournal b new.journal × AreApart b.collections)) base is_left.legal }
 
   pub store_ran : (Kept : List Trace → Type 0) (None_kept Same_source Same_sink : Type 0)
       → ((traces : List Trace) × Kept traces × EndsRun (ServesLines keyspace seed old.start old.first (record { journal = old.journal; failed = failed old.keeper; traces = []; times = times }) (record { journal = new.journal; failed = failed new.keeper; traces = traces; times = later })) from to before after how)
@@ -355,7 +355,7 @@ module _ {K : Type 0} (tables : K → Option Tables) (failed : K → ℕ) (keysp
 
   pub store_mixed : (traces : List (List Trace))
       → EndsMix (Plays keyspace seed old.start old.first (record { journal = old.journal; failed = failed old.keeper; times = times }) (record { journal = new.journal; failed = failed new.keeper; times = later }) traces)
-          (IsUnplayed (record { journal = old.journal; failed = failed old.keeper; times = times }) (record { journal = new.journal; failed = failed new.keeper; times = later }) traces before after) from to before after how
+      (IsUnplayed (record { journal = old.journal; failed = failed old.keeper; times = times }) (record { journal = new.journal; failed = failed new.keeper; times = later }) traces before after) from to before after how
       → EndsMixOn tables failed keyspace seed old times kept from to before after how
   store_mixed traces e = record {
     history = new.journal;
@@ -363,7 +363,7 @@ module _ {K : Type 0} (tables : K → Option Tables) (failed : K → ℕ) (keysp
     later = later;
     ended =
         subst (λ (k : K). EndsMix (Plays keyspace seed old.start old.first (record { journal = old.journal; failed = failed old.keeper; times = times }) (record { journal = new.journal; failed = failed k; times = later }) traces)
-            (IsUnplayed (record { journal = old.journal; failed = failed old.keeper; times = times }) (record { journal = new.journal; failed = failed k; times = later }) traces before after) from to before after how)
+        (IsUnplayed (record { journal = old.journal; failed = failed old.keeper; times = times }) (record { journal = new.journal; failed = failed k; times = later }) traces before after) from to before after how)
         (sym back) e;
     left = left;
   }

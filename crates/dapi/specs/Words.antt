@@ -55,14 +55,6 @@ pub record AsksFor (words : List (List ℕ)) (command : Cmd) (keyspace : List �
   pub keyspace_is : keyspace ≡ keyspace_of (keyspaces_in choices)
   pub collections_are : collections ≡ collections_in choices
 
--- the words ask for a run on this keyspace with these collections
-abbrev pub RunsOn : List (List ℕ) → List ℕ → List (List ℕ) → Type 0
-RunsOn words = AsksFor words Run
-
--- the words ask for a mix
-abbrev pub MixesOn : List (List ℕ) → List ℕ → List (List ℕ) → Type 0
-MixesOn words = AsksFor words Mix
-
 -- the words are no command's
 abbrev pub IsUsage : List (List ℕ) → Type 0
 IsUsage words = (command : Cmd) (keyspace : List ℕ) (collections : List (List ℕ)) → AsksFor words command keyspace collections → ⊥

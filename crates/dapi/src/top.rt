@@ -10,7 +10,7 @@ ghost use Rattle.dapi.specs.Words.{AsksFor, IsUsage};
 ghost use Rattle.dapi.specs.Top.{Ends, FailsOpening, IsOverfull, ServesNone};
 ghost use Rattle.dapi.specs.Complete.{IsUnhindered, RunsUndisturbed, MixesUndisturbed};
 ghost use Rattle.dapi.specs.Note.{IsNoted, line_note, note_at, is_status, status_of, note_of, word_status, word_note, open_status, open_note};
-ghost use Rattle.dapi.specs.Ended.{EndsAs};
+ghost use Rattle.dapi.specs.Ended.{IsLeft, EndsAs};
 
 use crate::note::{note_of, status_of, word_note, word_status, write_note};
 use crate::words::{Cmd, WordFault, read};
@@ -70,6 +70,17 @@ fn refuse_store<E: Sink, K: Keeper>(notes: &mut E, fault: OpenFault<K>) -> (u8, 
     }
 }
 
+// Ends a call on an open store: writes the note, answers the exit status, and hands the keeper back.
+fn end_store<E: Sink, K: Keeper>(notes: &mut E, how: RunHow, store: Store<K>) -> (u8, K)
+    ensures status { result.0 ≡ status_of how }
+    ensures noted { IsNoted (E.writing notes.old) (E.writing notes.new) (note_of how) }
+    ensures keeper { result.1 ≡ store.keeper }
+    ensures left { IsLeft K.tables store result.1 store.journal }
+{
+    write_note(notes, note_of(how).as_str());
+    (status_of(how), store.into_keeper())
+}
+
 // Runs on an open store, and hands its keeper back.
 fn run_on<S: Source, W: Sink, E: Sink, K: Keeper, C: Clock>(
     alloc: Global,
@@ -88,9 +99,10 @@ fn run_on<S: Source, W: Sink, E: Sink, K: Keeper, C: Clock>(
     ensures faults { K.failed store.keeper ≤ K.failed result.1 }
 {
     let mut store = store;
-    let RunEnd { how, traces: _ } = run_lines(alloc, keyspace, source, sink, &mut store, clock, seed);
-    write_note(notes, note_of(how).as_str());
-    (status_of(how), store.into_keeper())
+    let RunEnd { how, traces: _ } = run_lines(
+        alloc, keyspace, source, sink, &mut store, clock, seed,
+    );
+    end_store(notes, how, store)
 }
 
 // Plays a script on an open store, and hands its keeper back.
@@ -112,8 +124,7 @@ fn mix_on<S: Source, W: Sink, E: Sink, K: Keeper, C: Clock>(
 {
     let mut store = store;
     let RunEnd { how, traces: _ } = mix(alloc, keyspace, source, sink, &mut store, clock, seed);
-    write_note(notes, note_of(how).as_str());
-    (status_of(how), store.into_keeper())
+    end_store(notes, how, store)
 }
 
 // Does what a command says on an open store, and hands its keeper back.
@@ -135,12 +146,8 @@ fn run_store<S: Source, W: Sink, E: Sink, K: Keeper, C: Clock>(
     ensures faults { K.failed store.keeper ≤ K.failed result.1 }
 {
     match command {
-        Cmd::Run => run_on(
-            alloc, keyspace, source, sink, notes, store, clock, seed,
-        ),
-        Cmd::Mix => mix_on(
-            alloc, keyspace, source, sink, notes, store, clock, seed,
-        ),
+        Cmd::Run => run_on(alloc, keyspace, source, sink, notes, store, clock, seed),
+        Cmd::Mix => mix_on(alloc, keyspace, source, sink, notes, store, clock, seed),
     }
 }
 
