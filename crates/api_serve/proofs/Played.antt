@@ -240,7 +240,7 @@ module _ (seed : List ℕ) (base : ℕ) where
   new_more k n (q ∷ requests) [] r h is new one = absurd new
   new_more k n (q ∷ requests) (g ∷ held) r h is new one = (new.0, new_more (k + 1) n requests held r h (omega (arith, is)) new.1 one)
 
-new_long : (seed : List ℕ) (base k : ℕ) (requests : List (List Request)) (held : List Held) → AreNew seed base k requests held → length held ≡ length requests
+pub new_long : (seed : List ℕ) (base k : ℕ) (requests : List (List Request)) (held : List Held) → AreNew seed base k requests held → length held ≡ length requests
 new_long seed base k [] [] new = refl
 new_long seed base k [] (g ∷ held) new = absurd new
 new_long seed base k (q ∷ requests) [] new = absurd new
@@ -277,7 +277,7 @@ module _ (laws : Laws) where
             subst (λ J. AreSessions b J k (map (λ (z : Held). no_exchange) (held ++ h ∷ []))) (sym journal)
             (subst (AreSessions b (s.journal ++ Opened (opened_in s.journal) ∷ []) k) (sym (map-append (λ (z : Held). no_exchange) held (h ∷ [])))
             (sessions_more b (s.journal ++ Opened (opened_in s.journal) ∷ []) k (opened_in s.journal) (map (λ (z : Held). no_exchange) held) [] (count ∙ ap (λ m. k + m) (sym held_long))
-                (sessions_stay b s.journal (opened_in s.journal) k (map (λ (z : Held). no_exchange) held) legal (so.sessions b told)) (opens b s.journal (opened_in s.journal) (none b told) refl legal)));
+            (sessions_stay b s.journal (opened_in s.journal) k (map (λ (z : Held). no_exchange) held) legal (so.sessions b told)) (opens b s.journal (opened_in s.journal) (none b told) refl legal)));
       }
 
 pub on_err : {X E : Type 0} (r : Result X E) (P : Type 0) → P → OnErr r P

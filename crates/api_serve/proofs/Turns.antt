@@ -211,16 +211,16 @@ module _ (laws : Laws) where
       → TakesTurns start keyspace (i ∷ []) held (set held i h') (scene_of H low times) (scene_of H' high times')
   takes_turn start keyspace H H' more low high times times' i held h h' at same once longer own journal = ⊎_elim
       (λ e seed base first requests players standing.
-          let pl = place laws start keyspace seed base first i requests held players h standing.are_held at in
-          let g = takes_steps start keyspace H H' more low high times times' i 0 held h h' at same e.1 longer own journal seed base first requests players standing in record {
-            now = g.now;
-            steps = (
-              record { scene = scene_of H low times; players = players },
-              record { before = pl.player; after = pl.player; at = pl.at; players = sym (same_set players i pl.player pl.at); step = inl ((sym pl.is.left ∙ e.0.0, pl.is.present ∙ ap (option_map cut_off) e.0.1), refl) },
-              g.steps,
-            );
-            standing = g.standing;
-          })
+      let pl = place laws start keyspace seed base first i requests held players h standing.are_held at in
+      let g = takes_steps start keyspace H H' more low high times times' i 0 held h h' at same e.1 longer own journal seed base first requests players standing in record {
+        now = g.now;
+        steps = (
+          record { scene = scene_of H low times; players = players },
+          record { before = pl.player; after = pl.player; at = pl.at; players = sym (same_set players i pl.player pl.at); step = inl ((sym pl.is.left ∙ e.0.0, pl.is.present ∙ ap (option_map cut_off) e.0.1), refl) },
+          g.steps,
+        );
+        standing = g.standing;
+      })
       (λ f. takes_steps start keyspace H H' more low high times times' i 1 held h h' at same f longer own journal)
       once
 

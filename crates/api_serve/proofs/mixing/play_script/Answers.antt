@@ -23,8 +23,8 @@ pub play-requires-clause-within : goal.play-requires-clause-within
 play-requires-clause-within g c =
     let told = c.in_ok-players.ensures in
     let long : length c.args.script.requests.items ≡ length c.as_mut_slice.result.now =
-        sym (length-map c.args.script.requests.items (λ q. q.items)) ∙ sym (new_long c.args.seed.now c.args.store.now.first (opened_in c.args.store.now.journal) (map (λ q. q.items) c.args.script.requests.items) c.in_ok-players.players.items told.opened)
-        ∙ ap length (sym c.as_mut_slice.ensures.value) in
+    sym (length-map c.args.script.requests.items (λ q. q.items)) ∙ sym (new_long c.args.seed.now c.args.store.now.first (opened_in c.args.store.now.journal) (map (λ q. q.items) c.args.script.requests.items) c.in_ok-players.players.items told.opened)
+    ∙ ap length (sym c.as_mut_slice.ensures.value) in
     subst (λ (ts : List ℕ). Each (λ k. k < length c.as_mut_slice.result.now) ts) (sym c.as_slice.ensures.value) (subst (λ n. Each (λ k. k < n) c.args.script.turns.items) long c.requires.within)
 
 pub answers_of-requires-clause-room : goal.answers_of-requires-clause-room
@@ -37,7 +37,7 @@ answers_of-requires-clause-room g c =
     let len : c.in_ok-players.players.len ≡ length old = search rules in
     let back = written_back c.in_ok-players.players.len new old same len in
     let many : length old ≡ length c.args.script.requests.items =
-        new_long c.args.seed.now c.args.store.now.first (opened_in c.args.store.now.journal) (map (λ q. q.items) c.args.script.requests.items) old told.opened ∙ length-map c.args.script.requests.items (λ q. q.items) in
+    new_long c.args.seed.now c.args.store.now.first (opened_in c.args.store.now.journal) (map (λ q. q.items) c.args.script.requests.items) old told.opened ∙ length-map c.args.script.requests.items (λ q. q.items) in
     let long = ap length back ∙ same ∙ many ∙ sym c.len.ensures in
     (subst (λ n. n ≤ vec_capacity c.in_ok-room.room.replies) (sym long) room.2, subst (λ n. n ≤ vec_capacity c.in_ok-room.room.traces) (sym long) room.3)
 
@@ -58,8 +58,8 @@ returns-clause-played g c =
     let back = written_back c.in_ok-players.players.len new old same len in
     let longer : t.journal ≡ s.journal ++ openings (opened_in s.journal) (length requests) = told.journal ∙ ap (λ n. s.journal ++ openings (opened_in s.journal) n) (sym (length-map c.args.script.requests.items (λ q. q.items))) in
     let played = subst (λ (hs : List Held). PlaysOut s.start c.args.keyspace.now c.args.script.turns.items hs new (scene_of t.journal (failed s.keeper) times) (scene_of u.journal (failed u.keeper) later)) c.as_mut_slice.ensures.value
-        (subst (λ (ts : List ℕ). PlaysOut s.start c.args.keyspace.now ts c.as_mut_slice.result.now new (scene_of t.journal (failed s.keeper) times) (scene_of u.journal (failed u.keeper) later)) c.as_slice.ensures.value
-        (subst (λ n. PlaysOut s.start c.args.keyspace.now c.as_slice.result.now c.as_mut_slice.result.now new (scene_of t.journal n times) (scene_of u.journal (failed u.keeper) later)) (ap failed told.keeper)
-        (subst (λ (o : Option State). PlaysOut o c.args.keyspace.now c.as_slice.result.now c.as_mut_slice.result.now new (scene_of t.journal (failed t.keeper) times) (scene_of u.journal (failed u.keeper) later)) told.base.1 c.play.ensures.plays))) in
+    (subst (λ (ts : List ℕ). PlaysOut s.start c.args.keyspace.now ts c.as_mut_slice.result.now new (scene_of t.journal (failed s.keeper) times) (scene_of u.journal (failed u.keeper) later)) c.as_slice.ensures.value
+    (subst (λ n. PlaysOut s.start c.args.keyspace.now c.as_slice.result.now c.as_mut_slice.result.now new (scene_of t.journal n times) (scene_of u.journal (failed u.keeper) later)) (ap failed told.keeper)
+    (subst (λ (o : Option State). PlaysOut o c.args.keyspace.now c.as_slice.result.now c.as_mut_slice.result.now new (scene_of t.journal (failed t.keeper) times) (scene_of u.journal (failed u.keeper) later)) told.base.1 c.play.ensures.plays))) in
     plays_script s.start c.args.keyspace.now c.args.seed.now s.first (scene_of s.journal (failed s.keeper) times) t.journal u.journal c.play.ensures.longer.0 (failed u.keeper) later requests c.args.script.turns.items old new c.answers_of.result longer c.play.ensures.longer.1 told.opened
     told.sessions played (c.answers_of.ensures.traces ∙ ap (map (λ (h : Held). h.traces)) back) (c.answers_of.ensures.replies ∙ ap (map (λ (h : Held). h.replies)) back)

@@ -27,7 +27,7 @@ sessions-preserved g c =
     let steps : into_iter_items at.list-iterator ≡ list ∷ into_iter_items c.next.new.self = c.in-Some.ensures.steps.0 in
     let pushed : c.push.new.self.items ≡ at.players.items ++ player ∷ [] = search rules in
     let opened = opens_more c.sessions_go_on.ensures c.args.seed.now c.args.store.now at.store c.open_player.new.store (map (λ q. q.items) at.yielded) at.players.items list.items player inv.opened inv.base told.base told.lawful
-        (λ base known. (c.journal_len.ensures.kept.history.begins base known).none_open) c.a_session_opens.ensures told.opened told.journal in record {
+    (λ base known. (c.journal_len.ensures.kept.history.begins base known).none_open) c.a_session_opens.ensures told.opened told.journal in record {
       all = append_assoc at.yielded (list ∷ []) _ ∙ ap (λ l. at.yielded ++ l) (sym steps) ∙ inv.all;
       len = let was = inv.len in let gone = c.in-Some.ensures.steps.1 in let short = ap length steps in omega arith;
       opened = subst (λ (hs : List Held). AreOpened c.args.seed.now c.args.store.now c.open_player.new.store (map (λ q. q.items) (at.yielded ++ list ∷ [])) hs) (sym pushed)

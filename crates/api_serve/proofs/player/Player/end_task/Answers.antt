@@ -39,9 +39,12 @@ steps-preserved g c =
     let one = so_stepped failed s t h held h' task taken inv.so.fit told.steps told.faults told.base told.lawful in
     let same = (stands_of failed s h held task taken inv.so.fit).0 in record {
       so = so_goes_on failed s₀ s t h₀ h h' inv.so one.base one.fit one.session one.grown one.lawful;
-      steps = (inv.steps.0 + 1, λ keyspace times. then_on s₀.start keyspace inv.steps.0 1 h₀ h h' (scene_of s₀.journal (failed s₀.keeper) times) (scene_of s.journal (failed s.keeper) times) (scene_of t.journal (failed t.keeper) times) inv.so.session (inv.steps.1 keyspace times)
-          (subst (λ (o : Option State). StepsOn o keyspace 1 h h' (scene_of s.journal (failed s.keeper) times) (scene_of t.journal (failed t.keeper) times)) inv.so.base.1
-          (goes_on c.sessions_go_on.ensures s.start keyspace s.journal t.journal (failed s.keeper) (failed t.keeper) times h held h' task taken same told.steps told.faults (journal_of failed s t told.base told.lawful))));
+      steps = (
+        inv.steps.0 + 1,
+        λ keyspace times. then_on s₀.start keyspace inv.steps.0 1 h₀ h h' (scene_of s₀.journal (failed s₀.keeper) times) (scene_of s.journal (failed s.keeper) times) (scene_of t.journal (failed t.keeper) times) inv.so.session (inv.steps.1 keyspace times)
+            (subst (λ (o : Option State). StepsOn o keyspace 1 h h' (scene_of s.journal (failed s.keeper) times) (scene_of t.journal (failed t.keeper) times)) inv.so.base.1
+            (goes_on c.sessions_go_on.ensures s.start keyspace s.journal t.journal (failed s.keeper) (failed t.keeper) times h held h' task taken same told.steps told.faults (journal_of failed s t told.base told.lawful))),
+      );
       left = told.steps.rest.2 ∙ inv.left;
     }
 

@@ -13,7 +13,7 @@ returns-in-Some-clause-steps g c =
     let taken : h ≡ record h { task = Some task } = λ i. record h { task = sym c.in-Some.ensures.value i } in
     let told = c.step_task.ensures in
     inr (goes_on c.sessions_go_on.ensures _ c.args.keyspace.now _ _ _ _ _ h held c.step_task.new.self task taken (stands_of failed c.args.store.now h held task taken c.requires.fit).0 told.steps told.faults
-        (journal_of g.K.Keeper.failed c.args.store.now c.step_task.new.store told.base told.lawful))
+    (journal_of g.K.Keeper.failed c.args.store.now c.step_task.new.store told.base told.lawful))
 
 pub returns-in_default-pop_front-clause-steps : goal.returns-in_default-pop_front-clause-steps
 returns-in_default-pop_front-clause-steps g c =
@@ -34,7 +34,7 @@ returns-in-Task-clause-steps g c =
     let none : h.task ≡ None = search rules in
     let told = c.step_task-in-Task.ensures in
     inr (begins_with c.sessions_go_on.ensures _ c.args.keyspace.now _ _ _ _ _ _ h held c.step_task-in-Task.new.self c.now_ms-moment.result _ c.in-Some-pop_front.request c.pop_front.new.self.items task (search rules) none c.in-Some-pop_front.ensures.items refl refl refl c.in-Task.ensures
-        c.now_ms-moment.ensures.gives c.now_ms-moment.ensures.later told.steps told.faults (journal_of g.K.Keeper.failed c.args.store.now c.step_task-in-Task.new.store told.base told.lawful))
+    c.now_ms-moment.ensures.gives c.now_ms-moment.ensures.later told.steps told.faults (journal_of g.K.Keeper.failed c.args.store.now c.step_task-in-Task.new.store told.base told.lawful))
 
 pub returns-in-Task-clause-fit : goal.returns-in-Task-clause-fit
 returns-in-Task-clause-fit g c =
@@ -45,8 +45,8 @@ returns-in-Task-clause-fit g c =
     let told = c.step_task-in-Task.ensures in
     let made = c.in-Task.ensures in
     fit_later _ _ _ _ _ _ held c.step_task-in-Task.new.self task told.base.1
-        (fit_next c.args.store.now.start c.args.store.now.journal h held task c.in-Some-pop_front.request c.pop_front.new.self.items c.requires.fit none c.in-Some-pop_front.ensures.items refl refl refl made.session_is (made.stands c.args.store.now.start c.args.store.now.journal))
-        told.steps
+    (fit_next c.args.store.now.start c.args.store.now.journal h held task c.in-Some-pop_front.request c.pop_front.new.self.items c.requires.fit none c.in-Some-pop_front.ensures.items refl refl refl made.session_is (made.stands c.args.store.now.start c.args.store.now.journal))
+    told.steps
 
 pub returns-in-Task-clause-grown : goal.returns-in-Task-clause-grown
 returns-in-Task-clause-grown g c =
@@ -61,4 +61,4 @@ returns-clause-steps g c =
     let none : h.task ≡ None = search rules in
     let kept = c.keep.ensures in
     inr (answers_at_once c.sessions_go_on.ensures _ c.args.keyspace.now _ _ _ _ h c.keep.new.self c.now_ms-moment.result _ c.in-Some-pop_front.request c.pop_front.new.self.items c.in-Answered.field-0 c.begin.new.ids (search rules) kept.rest.1 none c.in-Some-pop_front.ensures.items
-        (ap (λ q. q.items) kept.rest.2) (kept.rest.3 ∙ c.take.ensures.after) (search rules) (search rules) c.in-Answered.ensures c.now_ms-moment.ensures.gives c.now_ms-moment.ensures.later)
+    (ap (λ q. q.items) kept.rest.2) (kept.rest.3 ∙ c.take.ensures.after) (search rules) (search rules) c.in-Answered.ensures c.now_ms-moment.ensures.gives c.now_ms-moment.ensures.later)
