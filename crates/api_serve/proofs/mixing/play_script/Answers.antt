@@ -38,7 +38,8 @@ answers_of-requires-clause-room g c =
     let back = written_back c.in_ok-players.players.len new old same len in
     let many : length old ≡ length c.args.script.requests.items =
     new_long c.args.seed.now c.args.store.now.first (opened_in c.args.store.now.journal) (map (λ q. q.items) c.args.script.requests.items) old told.opened ∙ length-map c.args.script.requests.items (λ q. q.items) in
-    let long = ap length back ∙ same ∙ many ∙ sym c.len.ensures in
+    let count : length c.args.script.requests.items ≡ c.len.result = search rules in
+    let long = ap length back ∙ same ∙ many ∙ count in
     (subst (λ n. n ≤ vec_capacity c.in_ok-room.room.replies) (sym long) room.2, subst (λ n. n ≤ vec_capacity c.in_ok-room.room.traces) (sym long) room.3)
 
 pub returns-clause-played : goal.returns-clause-played
