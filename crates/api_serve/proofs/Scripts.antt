@@ -449,3 +449,29 @@ pub whole_within : (all : ℕ) (input : List ℕ) (requests : List (List Request
 whole_within all input requests turns count w size =
     subst (λ n. Each (λ k. k < n) turns) (w.same ∙ size)
     (subst (λ (xs : List ℕ). Each (λ k. k < all) xs) (sym w.told.turns_are) (say_below all 0 w.lines w.told.asks w.told.given w.told.said))
+
+-- ---- a script has no wrong line
+
+first_of_script : (all named : ℕ) (line : List ℕ) (others : List (List ℕ)) (asks : List Ask) (turns : List ℕ) → Say all named (line ∷ others) asks turns → IsOfScript all named line
+first_of_script all named line others asks turns (inl s) = inl s.0
+first_of_script all named line others asks turns (inr (inl s)) = inr (inl (s.0.session, parts_of s.0.request, s.2, s.3))
+first_of_script all named line others asks turns (inr (inr s)) = inr (inr (s.0, s.2, s.3))
+
+-- a line behind others is of its form where so many are named as those name
+line_of_script : (all named so_far : ℕ) (earlier : List (List ℕ)) (line : List ℕ) (others : List (List ℕ)) (asks : List Ask) (turns : List ℕ)
+    → AreNamed named earlier so_far → Say all named (earlier ++ line ∷ others) asks turns → IsOfScript all so_far line
+line_of_script all named so_far [] line others asks turns p s = subst (λ k. IsOfScript all k line) (sym p) (first_of_script all named line others asks turns s)
+line_of_script all named so_far (first ∷ earlier) line others asks turns p (inl s) =
+    line_of_script all named so_far earlier line others asks turns (named_none named so_far first earlier (skipped_names_none named first s.0) p) s.1
+line_of_script all named so_far (first ∷ earlier) line others asks turns p (inr (inl s)) =
+    let further = named_asks named so_far s.0.session (parts_of s.0.request) first earlier s.2 p in
+    line_of_script all (named_behind named s.0.session) so_far earlier line others s.1 turns further s.5
+line_of_script all named so_far (first ∷ earlier) line others asks turns p (inr (inr s)) =
+    let further = named_none named so_far first earlier (turns_name_none named first s.0 s.2) p in
+    line_of_script all named so_far earlier line others asks s.1 further s.5
+
+pub none_is_wrong : (lines : List (List ℕ)) (requests : List (List Request)) (turns : List ℕ) (number : ℕ) → AreScript lines requests turns → IsWrongAt lines number → ⊥
+none_is_wrong lines requests turns number a w =
+    let same = named_once 0 w.all (length requests) lines w.named a.named in
+    let said = subst (λ (ls : List (List ℕ)). Say (length requests) 0 ls a.asks turns) w.lines_are a.said in
+    w.wrong (subst (λ k. IsOfScript k w.so_far w.line) (sym same) (line_of_script (length requests) 0 w.so_far w.earlier w.line w.others a.asks turns w.named_so_far said))

@@ -7,6 +7,8 @@ ghost use Rattle.store_core.specs.declared.entry.Entry.{Entry as Journaled};
 ghost use Rattle.api_serve.specs.Changes.{LosesNoChange};
 ghost use Rattle.api_serve.specs.Lines.{HasLines};
 ghost use Rattle.api_serve.specs.Laws.{Laws};
+ghost use Rattle.api_serve.specs.Script.{AreScript, IsWrongAt};
+ghost use Rattle.reply_env.specs.declared.request.Request.{Request as Asked};
 
 use cmd_tasks::{
     a_request_begins, a_request_ends, a_step_is_made, a_task_may_be_cut_off, one_session_steps,
@@ -17,6 +19,11 @@ use store_core::changes_follow;
 /// An input has one list of lines.
 pub fn an_input_has_one_list_of_lines()
     ensures { (input : List ℕ) (lines others : List (List ℕ)) → HasLines input lines → HasLines input others → lines ≡ others }
+{}
+
+/// A script has no wrong line.
+pub fn a_script_has_no_wrong_line()
+    ensures { (lines : List (List ℕ)) (requests : List (List Asked)) (turns : List ℕ) (number : ℕ) → AreScript lines requests turns → IsWrongAt lines number → ⊥ }
 {}
 
 /// No change is lost: each write of a document was made on the number that the last write of it left, or on none where that

@@ -14,7 +14,7 @@ mod script;
 mod serve;
 mod streams;
 
-pub use laws::{an_input_has_one_list_of_lines, no_change_is_lost};
+pub use laws::{a_script_has_no_wrong_line, an_input_has_one_list_of_lines, no_change_is_lost};
 pub use mixing::mix;
 pub use run::RunHow;
 pub use serve::{RunEnd, run_lines};
